@@ -1,0 +1,5 @@
+pub mod Bits
+pub mod Blocks
+pub mod Groups
+pub mod Calls
+pub mod Refusals
