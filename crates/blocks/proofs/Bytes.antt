@@ -7,7 +7,7 @@ use native.Mathlib.Numerals.{add-one}
 use native.Mathlib.Omega.{arith}
 use lib.ListN.{length, take, drop, getD, length-drop}
 use borrow.Rule.Slice.PartMut.{putMid}
-use Rattle.std.proofs.shelf.Lists.{take-at, drop-at, drop-drop, drop-more, getD-drop, take-append-le, drop-append-le}
+use Rattle.std.proofs.shelf.Lists.{take-at, drop-at, drop-drop, drop-more, getD-drop, take-append-le, drop-append-le, take-append-drop}
 use Rattle.blocks.specs.Bits.{bit, field, number, octet-bits, octets}
 use Rattle.blocks.proofs.Fields.{length-field, field-append, field-join, number-field, take-field, drop-field}
 
@@ -103,8 +103,23 @@ octets-append (suc m) n xs ys h =
     let k : length (drop 8 xs) ≡ 8 * m = length-drop 8 xs ∙ omega arith in
     rw suc-add (ap₂ (λ (b : ℕ) (zs : List ℕ). b ∷ zs) (ap number (take-append-le 8 xs ys l)) (ap (octets (m + n)) (drop-append-le 8 xs ys l) ∙ octets-append m n (drop 8 xs) ys k))
 
--- eight octets more, written behind those of p
-pub put-more : (p o xs ys new : List ℕ) (n : ℕ) → length p ≡ n → ys ≡ p ++ drop n xs → new ≡ take n ys ++ (o ++ drop (n + 8) ys) → new ≡ (p ++ o) ++ drop (n + 8) xs
-put-more p o xs ys new n h e f =
-    let back : drop (n + 8) ys ≡ drop (n + 8) xs = sym (drop-drop 8 n ys) ∙ ap (drop 8) (ap (drop n) e ∙ drop-at p (drop n xs) n h) ∙ drop-drop 8 n xs in
-    f ∙ ap₂ (λ (u v : List ℕ). u ++ (o ++ v)) (ap (take n) e ∙ take-at p (drop n xs) n h) back ∙ sym (append-assoc p o (drop (n + 8) xs))
+-- k octets more, written behind those of p
+pub put-more : (k : ℕ) (p o xs ys new : List ℕ) (n : ℕ) → length p ≡ n → ys ≡ p ++ drop n xs → new ≡ take n ys ++ (o ++ drop (n + k) ys) → new ≡ (p ++ o) ++ drop (n + k) xs
+put-more k p o xs ys new n h e f =
+    let back : drop (n + k) ys ≡ drop (n + k) xs = sym (drop-drop k n ys) ∙ ap (drop k) (ap (drop n) e ∙ drop-at p (drop n xs) n h) ∙ drop-drop k n xs in
+    f ∙ ap₂ (λ (u v : List ℕ). u ++ (o ++ v)) (ap (take n) e ∙ take-at p (drop n xs) n h) back ∙ sym (append-assoc p o (drop (n + k) xs))
+
+octet-bits-append : (xs ys : List ℕ) → octet-bits (xs ++ ys) ≡ octet-bits xs ++ octet-bits ys
+unfolding octet-bits
+octet-bits-append [] ys = refl
+octet-bits-append (x ∷ xs) ys = ap (λ (l : List ℕ). field x 0 8 ++ l) (octet-bits-append xs ys) ∙ sym (append-assoc (field x 0 8) (octet-bits xs) (octet-bits ys))
+
+-- eight octets, and those behind them
+pub octet-bits-next : (xs : List ℕ) (n : ℕ) → octet-bits (drop n xs) ≡ octet-bits (take 8 (drop n xs)) ++ octet-bits (drop (n + 8) xs)
+octet-bits-next xs n =
+    ap octet-bits (sym (take-append-drop 8 (drop n xs)) ∙ ap (λ (l : List ℕ). take 8 (drop n xs) ++ l) (drop-drop 8 n xs))
+    ∙ octet-bits-append (take 8 (drop n xs)) (drop (n + 8) xs)
+
+pub octet-bits-none : octet-bits [] ≡ []
+unfolding octet-bits
+octet-bits-none = refl

@@ -4,3 +4,8 @@ pub mod Written
 pub mod Bytes
 pub mod Lowest
 pub mod Buffers
+pub mod Reading
+pub mod Returned
+pub mod Walking
+pub mod Scrambles
+pub mod Words

@@ -8,8 +8,8 @@ use lib.ListN.{length, take, drop, getD, length-append}
 use Rattle.std.proofs.shelf.Bits.{mod-pow-add, mod-low, shr-high, shr-split}
 use Rattle.std.proofs.shelf.Lists.{take-at, drop-at, drop-drop}
 use Rattle.blocks.specs.Bits.{bit, field, number}
-use Rattle.blocks.specs.Groups.{without, with-digit}
-use Rattle.blocks.proofs.Fields.{length-field, field-append, field-shift, field-low, field-high, field-join}
+use Rattle.blocks.specs.Groups.{without, with-digit, words}
+use Rattle.blocks.proofs.Fields.{length-field, field-append, field-shift, field-low, field-high, field-join, number-field}
 
 -- four low bits in front of sixty
 pub carried-bits : (carry x : ℕ) → carry < 16 → field (x * 16 % 2 ^ 64 + carry) 0 64 ≡ field carry 0 4 ++ field x 0 60
@@ -21,7 +21,7 @@ carried-bits carry x h =
     ∙ ap (λ (bs : List ℕ). field carry 0 4 ++ bs) (sym (field-low (x / 2 ^ 60) 60 (x % 2 ^ 60) 0 60 (omega arith) (omega arith)) ∙ ap (λ (y : ℕ). field y 0 60) s)
 
 -- the low digit of x, then its bits from bit 8 on
-around : (x : ℕ) (d : ℕ) → d < 16 → field (x / 256 * 256 + d * 16 + x % 16) 0 64 ≡ field x 0 4 ++ (field d 0 4 ++ field x 8 56)
+pub around : (x : ℕ) (d : ℕ) → d < 16 → field (x / 256 * 256 + d * 16 + x % 16) 0 64 ≡ field x 0 4 ++ (field d 0 4 ++ field x 8 56)
 around x d h =
     let e : x / 256 * 256 + d * 16 + x % 16 ≡ (x / 256 * 2 ^ 4 + d) * 2 ^ 4 + x % 16 = omega arith in
     let s : x / 16 * 2 ^ 4 + x % 16 ≡ x = omega arith in
@@ -45,29 +45,29 @@ shortened-bits carry x h =
     (field-shift x 8 0 56))
 
 -- leaving out what stands past a list of n
-take-past : {A : Type 0} (xs ys : List A) (n p : ℕ) → length xs ≡ n → take (n + p) (xs ++ ys) ≡ xs ++ take p ys
+pub take-past : {A : Type 0} (xs ys : List A) (n p : ℕ) → length xs ≡ n → take (n + p) (xs ++ ys) ≡ xs ++ take p ys
 take-past [] ys n p e = let z : n ≡ 0 = omega arith in rw (z, zero-add)
 take-past (x ∷ xs) ys n p e =
     let z : n ≡ suc (length xs) = sym e in
     let s : suc (length xs) + p ≡ suc (length xs + p) = omega arith in
     rw (z, s) (ap (λ (l : List _). x ∷ l) (take-past xs ys (length xs) p refl))
 
-drop-past : {A : Type 0} (xs ys : List A) (n p : ℕ) → length xs ≡ n → drop (n + p) (xs ++ ys) ≡ drop p ys
+pub drop-past : {A : Type 0} (xs ys : List A) (n p : ℕ) → length xs ≡ n → drop (n + p) (xs ++ ys) ≡ drop p ys
 drop-past xs ys n p e = sym (drop-drop p n (xs ++ ys)) ∙ ap (drop p) (drop-at xs ys n e)
 
-without-past : (xs ys : List ℕ) (n p : ℕ) → length xs ≡ n → without (n + p) (xs ++ ys) ≡ xs ++ without p ys
+pub without-past : (xs ys : List ℕ) (n p : ℕ) → length xs ≡ n → without (n + p) (xs ++ ys) ≡ xs ++ without p ys
 without-past xs ys n p e =
     let s : n + p + 4 ≡ n + (p + 4) = omega arith in
     ap₂ (λ (u v : List ℕ). u ++ v) (take-past xs ys n p e) (ap (λ (k : ℕ). drop k (xs ++ ys)) s ∙ drop-past xs ys n (p + 4) e)
     ∙ append-assoc xs (take p ys) (drop (p + 4) ys)
 
-take-in : (x m n : ℕ) (ys : List ℕ) → take m (field x 0 (m + n) ++ ys) ≡ field x 0 m
+pub take-in : (x m n : ℕ) (ys : List ℕ) → take m (field x 0 (m + n) ++ ys) ≡ field x 0 m
 take-in x m n ys =
     ap (λ (l : List ℕ). take m (l ++ ys)) (field-append x 0 m n)
     ∙ ap (take m) (append-assoc (field x 0 m) (field x (0 + m) n) ys)
     ∙ take-at (field x 0 m) (field x (0 + m) n ++ ys) m (length-field x 0 m)
 
-drop-in : (x i m n : ℕ) (ys : List ℕ) → drop m (field x i (m + n) ++ ys) ≡ field x (i + m) n ++ ys
+pub drop-in : (x i m n : ℕ) (ys : List ℕ) → drop m (field x i (m + n) ++ ys) ≡ field x (i + m) n ++ ys
 drop-in x i m n ys =
     ap (λ (l : List ℕ). drop m (l ++ ys)) (field-append x i m n)
     ∙ ap (drop m) (append-assoc (field x i m) (field x (i + m) n) ys)
@@ -137,3 +137,27 @@ puts-before d x y z p rest out e f =
     ap₂ (λ (u v : List ℕ). u ++ v) e (f ∙ ap (with-digit p d) (drop-in y 0 4 60 rest))
     ∙ sym (append-assoc front (take p back) (field d 0 4 ++ drop p back))
     ∙ sym (ap (with-digit (64 + p) d) whole ∙ ap₂ (λ (u v : List ℕ). u ++ (field d 0 4 ++ v)) (take-past front back 64 p n) (drop-past front back 64 p n))
+
+-- four bits behind the first four of a part
+pub digit-of : (x : ℕ) (rest : List ℕ) → number (take 4 (drop 4 (field x 0 64 ++ rest))) ≡ x / 16 % 16
+digit-of x rest =
+    ap (λ (l : List ℕ). number (take 4 l)) (drop-in x 0 4 60 rest)
+    ∙ ap (λ (l : List ℕ). number (take 4 (l ++ rest))) (field-append x 4 4 56)
+    ∙ ap (λ (l : List ℕ). number (take 4 l)) (append-assoc (field x 4 4) (field x 8 56) rest)
+    ∙ ap number (take-at (field x 4 4) (field x 8 56 ++ rest) 4 (length-field x 4 4)) ∙ number-field x 4 4
+
+-- the same behind parts in front
+pub digit-past : (x n : ℕ) (rest : List ℕ) → number (take 4 (drop (64 + n) (drop 4 (field x 0 64 ++ rest)))) ≡ number (take 4 (drop n (drop 4 rest)))
+digit-past x n rest =
+    let W : List ℕ = field x 0 64 ++ rest in
+    let e : 4 + (64 + n) ≡ 64 + (4 + n) = omega arith in
+    ap (λ (l : List ℕ). number (take 4 l))
+    (drop-drop (64 + n) 4 W ∙ ap (λ (k : ℕ). drop k W) e ∙ drop-past (field x 0 64) rest 64 (4 + n) (length-field x 0 64) ∙ sym (drop-drop n 4 rest))
+
+pub digit-at : (at a b c d : ℕ) → at < 4 → getD (a ∷ b ∷ c ∷ d ∷ []) at 0 / 16 % 16 ≡ number (take 4 (drop (64 * at) (drop 4 (words (a ∷ b ∷ c ∷ d ∷ [])))))
+digit-at zero a b c d l = sym (digit-of a (words (b ∷ c ∷ d ∷ [])))
+digit-at (suc zero) a b c d l = sym (digit-past a 0 (words (b ∷ c ∷ d ∷ [])) ∙ digit-of b (words (c ∷ d ∷ [])))
+digit-at (suc (suc zero)) a b c d l = sym (digit-past a 64 (words (b ∷ c ∷ d ∷ [])) ∙ digit-past b 0 (words (c ∷ d ∷ [])) ∙ digit-of c (words (d ∷ [])))
+digit-at (suc (suc (suc zero))) a b c d l =
+    sym (digit-past a 128 (words (b ∷ c ∷ d ∷ [])) ∙ digit-past b 64 (words (c ∷ d ∷ [])) ∙ digit-past c 0 (words (d ∷ [])) ∙ digit-of d [])
+digit-at (suc (suc (suc (suc at)))) a b c d l = absurd (omega arith)

@@ -45,6 +45,13 @@ write-refused xs group = cond (eqb (length group) 33) (four-refused xs) (Some Le
 unfoldable pub written : List ℕ → List ℕ → List ℕ
 written xs group = cond (isSome (write-refused xs group)) group (group-octets (group-bits (blocks-in 4 xs)))
 
+-- reading back wants 33 bytes of group and room for 36 bytes of records
+unfoldable pub read-refused : List ℕ → List ℕ → Option Refusal
+read-refused group out = cond (eqb (length group) 33) (cond (eqb (length out) 36) None (Some Length)) (Some Length)
+
+unfoldable pub read-records : List ℕ → List ℕ → List ℕ
+read-records group out = cond (isSome (read-refused group out)) out (records-of (read-back (group-in group)))
+
 abbrev pub answered : {A : Type 0} → A → Option Refusal → Result A Refusal
 answered a None = Ok a
 answered a (Some e) = Err e

@@ -3,7 +3,7 @@ use Prim.Native.Nat.{ℕ, zero, suc, _+_, _*_, _/_, _%_, _^_}
 use mathlib.Core.List.{List, [], _∷_, _++_, map}
 use mathlib.Core.Bool.{Bool, true, false, cond}
 use lib.Dec.{eqb}
-use lib.ListN.{getD, take, drop}
+use lib.ListN.{getD, take, drop, set}
 use Rattle.std.specs.declared.option.Option.{Option}
 use Rattle.std.specs.declared.option.Option.the-variants.{None, Some}
 use Rattle.blocks.specs.Bits.{bit, field, number, octet-bits, octets}
@@ -81,16 +81,11 @@ abbrev pub blocks-of : List Header → List ℕ → List Block
 blocks-of [] s = []
 blocks-of (h ∷ hs) s = record { header = h; payload = number (take 64 s) } ∷ blocks-of hs (drop 64 s)
 
--- block c gets header 11
-abbrev pub marked : ℕ → List Block → List Block
-marked c [] = []
-marked zero (b ∷ bs) = record { header = Ones; payload = b .payload } ∷ bs
-marked (suc c) (b ∷ bs) = b ∷ marked c bs
-
--- Flag c is the first 0, and `rest` are the bits behind the flags: the type's high digit goes back in where one fits.
+-- Flag c is the first 0, and `rest` are the bits behind the flags: the type's high digit goes back in where one fits;
+-- else four zeros do, and block c gets header 11.
 unfoldable pub control-back : List ℕ → ℕ → List ℕ → Option ℕ → List Block
 control-back flags c rest (Some d) = blocks-of (map flagged flags) (with-digit (64 * c + 4) d rest)
-control-back flags c rest None = marked c (blocks-of (map flagged flags) (with-digit (64 * c + 4) 0 rest))
+control-back flags c rest None = blocks-of (set (map flagged flags) c Ones) (with-digit (64 * c + 4) 0 rest)
 
 unfoldable pub flags-back : List ℕ → List ℕ → List Block
 flags-back flags rest =

@@ -3,3 +3,9 @@ pub mod Blocks
 pub mod Groups
 pub mod Calls
 pub mod Refusals
+pub mod Sound
+pub mod Records
+pub mod Walk
+pub mod Scrambled
+pub mod Memories
+pub mod Taps

@@ -3,12 +3,13 @@ ghost use mathlib.Core.Path.{_≡_};
 ghost use mathlib.Core.Bool.{true, false};
 ghost use mathlib.Core.List.{[], _∷_, _++_, map};
 ghost use Prim.Native.Nat.{ℕ, _+_, _*_, _/_, _%_, _^_, _<_, _≤_};
-ghost use lib.ListN.{length, getD, drop};
+ghost use lib.ListN.{length, getD, take, drop};
 ghost use Rattle.std.specs.Options.{Cases as BySome};
 ghost use Rattle.std.specs.Slices.{found};
-ghost use Rattle.blocks.specs.Bits.{field};
+ghost use Rattle.blocks.specs.Bits.{field, number};
 ghost use Rattle.blocks.specs.Blocks.{good, second-bit, is-control};
-ghost use Rattle.blocks.specs.Groups.{all-good, some-control, first-control, some-zero, first-zero, without, with-digit, high-digit, words, bits-of, group-bits, read-back, flagged, blocks-of};
+ghost use Rattle.blocks.specs.Groups.{all-good, some-control, first-control, some-zero, first-zero, without, with-digit, high-digit, words, bits-of, group-bits, read-back, flagged, blocks-of, control-back};
+ghost use Rattle.blocks.specs.Sound.{is-type, sound};
 use crate::block::Block;
 use crate::block::Header;
 
@@ -195,6 +196,44 @@ pub(crate) fn with_digit(digit: u64, at: usize, a: u64, b: u64, c: u64, d: u64) 
     }
 }
 
+// Whether the first octet of a payload is a listed type.
+fn has_type(payload: u64) -> bool
+    ensures { λ r. ⌜ r ≡ is-type (payload % 256) ⌝ }
+{
+    let octet = payload % 256;
+    match high_digit(octet % 16) {
+        Some(digit) => digit == octet / 16,
+        None => false,
+    }
+}
+
+fn payload_at(at: usize, a: u64, b: u64, c: u64, d: u64) -> u64
+    requires { ⌜ at < 4 ⌝ }
+    ensures { λ r. ⌜ r ≡ getD (a ∷ b ∷ c ∷ d ∷ []) at 0 ⌝ }
+{
+    match at {
+        0 => a,
+        1 => b,
+        2 => c,
+        _ => d,
+    }
+}
+
+// Whether a group of these blocks comes back as it was: all headers are good, and the first control block, if any, has a
+// listed type.
+pub fn are_sound(blocks: [Block; 4]) -> bool
+    ensures { λ r. ⌜ r ≡ sound blocks ⌝ }
+{
+    let [a, b, c, d] = blocks;
+    if !are_good(a.header, b.header, c.header, d.header) {
+        return false;
+    }
+    match first_control(a.header, b.header, c.header, d.header) {
+        Some(at) => has_type(payload_at(at, a.payload, b.payload, c.payload, d.payload)),
+        None => true,
+    }
+}
+
 fn flagged(flags: u64, i: u32) -> Header
     requires { ⌜ i < 64 ⌝ }
     ensures { λ r. ⌜ r ≡ flagged (flags / 2 ^ i % 2) ⌝ }
@@ -231,6 +270,40 @@ fn joined(headers: [Header; 4], payloads: [u64; 4]) -> [Block; 4]
     ]
 }
 
+fn headers(flags: u64) -> [Header; 4]
+    ensures { λ r. ⌜ r ≡ map flagged (field flags 0 4) ⌝ }
+{
+    [
+        flagged(flags, 0),
+        flagged(flags, 1),
+        flagged(flags, 2),
+        flagged(flags, 3),
+    ]
+}
+
+// The low digit of the type in part `at`.
+fn low_digit(at: usize, a: u64, b: u64, c: u64, d: u64) -> u64
+    requires { ⌜ at < 4 ⌝ }
+    ensures { λ r. ⌜ r ≡ number (take 4 (drop (64 * at) (drop 4 (words (a ∷ b ∷ c ∷ d ∷ []))))) ⌝ }
+{
+    payload_at(at, a, b, c, d) / 16 % 16
+}
+
+// The four blocks where flag `at` is the first that is 0.
+fn control_blocks(at: usize, a: u64, b: u64, c: u64, d: u64) -> [Block; 4]
+    requires { ⌜ at < 4 ⌝ }
+    ensures { λ r. ⌜ r ≡ control-back (field a 0 4) at (drop 4 (words (a ∷ b ∷ c ∷ d ∷ []))) (high-digit (number (take 4 (drop (64 * at) (drop 4 (words (a ∷ b ∷ c ∷ d ∷ []))))))) ⌝ }
+{
+    let mut headers = headers(a);
+    match high_digit(low_digit(at, a, b, c, d)) {
+        Some(digit) => joined(headers, with_digit(digit, at, a, b, c, d)),
+        None => {
+            headers[at] = Header::Ones;
+            joined(headers, with_digit(0, at, a, b, c, d))
+        }
+    }
+}
+
 impl Group {
     // Four blocks as 257 bits.
     pub fn of(blocks: [Block; 4]) -> Group
@@ -256,6 +329,27 @@ impl Group {
                     first: false,
                     parts,
                 }
+            }
+        }
+    }
+
+    // Four blocks from 257 bits.
+    pub fn blocks(self) -> [Block; 4]
+        ensures { λ r. ⌜ r ≡ read-back (bits-of self) ⌝ }
+    {
+        let Group { first, parts } = self;
+        let [a, b, c, d] = parts;
+        if first {
+            return joined(
+                [Header::Data, Header::Data, Header::Data, Header::Data],
+                [a, b, c, d],
+            );
+        }
+        match first_zero(a) {
+            Some(at) => control_blocks(at, a, b, c, d),
+            None => {
+                let headers = [Header::Zeros, Header::Ones, Header::Zeros, Header::Ones];
+                joined(headers, with_digit(0, 0, a, b, c, d))
             }
         }
     }

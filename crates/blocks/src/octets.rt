@@ -44,7 +44,7 @@ fn header(kind: u8) -> Header
     }
 }
 
-fn kind(h: Header) -> u8
+pub(crate) fn kind(h: Header) -> u8
     ensures { λ r. ⌜ r ≡ kind-of h ⌝ }
 {
     match h {
