@@ -8,8 +8,8 @@ use native.Mathlib.Omega.{arith}
 use lib.ListN.{length, take, drop, getD, length-drop}
 use borrow.Rule.Slice.PartMut.{putMid}
 use Rattle.std.proofs.shelf.Lists.{take-at, drop-at, drop-drop, drop-more, getD-drop, take-append-le, drop-append-le, take-append-drop}
-use Rattle.blocks.specs.Bits.{bit, field, number, octet-bits, octets}
-use Rattle.blocks.proofs.Fields.{length-field, field-append, field-join, number-field, take-field, drop-field}
+use Rattle.blocks.specs.Bits.{field, number, octet-bits, octets}
+use Rattle.blocks.proofs.Fields.{field-join, number-field, take-field, drop-field}
 
 -- n elements from place k on, one by one
 run : ℕ → ℕ → List ℕ → List ℕ

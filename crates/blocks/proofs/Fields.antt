@@ -1,13 +1,13 @@
 -- Laws of bits, fields and octets.
 use Prim.Native.Nat.{ℕ, zero, suc, _+_, _-_, _*_, _/_, _%_, _^_, _<_, _≤_}
 use mathlib.Core.Path.{_≡_, refl, sym, ap, ap₂, _∙_}
-use mathlib.Core.List.{List, [], _∷_, _++_, append-assoc}
+use mathlib.Core.List.{List, _∷_, _++_}
 use native.Mathlib.Nat.{add-zero, zero-add, add-suc, suc-add, div-one, mod-eq-of-lt}
 use native.Mathlib.Omega.{arith}
-use lib.ListN.{length, take, drop, getD, length-append}
-use Rattle.std.proofs.shelf.Bits.{shr-shr, pow-add, field-of, mod-pow-add, mod-low, mod-below, pow-pos, shr-high}
+use lib.ListN.{length, take, drop}
+use Rattle.std.proofs.shelf.Bits.{shr-shr, field-of, mod-pow-add, mod-low, shr-high}
 use Rattle.std.proofs.shelf.Lists.{take-at, drop-at}
-use Rattle.blocks.specs.Bits.{bit, field, number, octet-bits, octets}
+use Rattle.blocks.specs.Bits.{bit, field, number, octets}
 
 pub length-field : (x i n : ℕ) → length (field x i n) ≡ n
 unfolding field
@@ -25,16 +25,17 @@ unfolding field
 field-shift x k i zero = refl
 field-shift x k i (suc n) = ap₂ (λ (b : ℕ) (bs : List ℕ). b ∷ bs) (ap (λ (y : ℕ). y % 2) (shr-shr x k i)) (field-shift x k (suc i) n ∙ ap (λ (j : ℕ). field x j n) (add-suc k i))
 
--- the bits below bit k do not see what stands above
+-- the bits below bit n do not see what stands above
+pub bit-mod : (x n i : ℕ) → i < n → bit (x % 2 ^ n) i ≡ bit x i
+bit-mod x n i l =
+    let e : n ≡ (n - i) + i = omega arith in
+    let j : n - i ≡ (n - i - 1) + 1 = omega arith in
+    ap (λ (m : ℕ). x % 2 ^ m / 2 ^ i % 2) e ∙ ap (λ (y : ℕ). y % 2) (field-of x (n - i) i)
+    ∙ ap (λ (m : ℕ). x / 2 ^ i % 2 ^ m % 2) j ∙ ap (λ (y : ℕ). y % 2) (mod-pow-add (x / 2 ^ i) (n - i - 1) 1)
+    ∙ omega arith
+
 bit-low : (a k x i : ℕ) → x < 2 ^ k → i < k → bit (a * 2 ^ k + x) i ≡ bit x i
-bit-low a k x i h l =
-    let e : k ≡ (k - i) + i = omega arith in
-    let j : k - i ≡ (k - i - 1) + 1 = omega arith in
-    let f : (n : ℕ) → bit (n % 2 ^ k) i ≡ bit n i = λ n.
-    ap (λ (m : ℕ). n % 2 ^ m / 2 ^ i % 2) e ∙ ap (λ (y : ℕ). y % 2) (field-of n (k - i) i)
-    ∙ ap (λ (m : ℕ). n / 2 ^ i % 2 ^ m % 2) j ∙ ap (λ (y : ℕ). y % 2) (mod-pow-add (n / 2 ^ i) (k - i - 1) 1)
-    ∙ omega arith in
-    sym (f (a * 2 ^ k + x)) ∙ ap (λ (y : ℕ). bit y i) (mod-low a k x h)
+bit-low a k x i h l = sym (bit-mod (a * 2 ^ k + x) k i l) ∙ ap (λ (y : ℕ). bit y i) (mod-low a k x h)
 
 pub field-low : (a k x i n : ℕ) → x < 2 ^ k → i + n ≤ k → field (a * 2 ^ k + x) i n ≡ field x i n
 unfolding field

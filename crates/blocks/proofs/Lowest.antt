@@ -1,14 +1,13 @@
 -- The lowest place at which a test holds.
-use Prim.Native.Nat.{ℕ, zero, suc, _+_, _<_, _≤_}
-use mathlib.Core.Path.{_≡_, refl, sym, ap, _∙_}
-use mathlib.Core.Bool.{Bool, true, false, cond}
-use mathlib.Core.Logic.{_⊎_, inl, inr}
+use Prim.Native.Nat.{ℕ, zero, suc, _+_, _<_}
+use mathlib.Core.Path.{_≡_}
+use mathlib.Core.Bool.{Bool, true, false}
+use mathlib.Core.Logic.{inl, inr}
 use native.Mathlib.Numerals.{add-one}
 use native.Mathlib.Omega.{arith}
-use Rattle.std.specs.declared.option.Option.{Option}
 use Rattle.std.specs.declared.option.Option.the-variants.{None, Some}
 use Rattle.std.proofs.shelf.Tests.{cases-lt}
-use Rattle.blocks.specs.Calls.{or-else, lowest}
+use Rattle.blocks.specs.Calls.{lowest}
 
 pub lowest-past : (f : ℕ → Bool) (i : ℕ) → lowest f i ≡ None → f i ≡ false → lowest f (i + 1) ≡ None
 unfolding lowest

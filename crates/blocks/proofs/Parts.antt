@@ -1,15 +1,15 @@
 -- The parts of a group around the digit that is left out.
-use Prim.Native.Nat.{ℕ, zero, suc, _+_, _-_, _*_, _/_, _%_, _^_, _<_, _≤_}
+use Prim.Native.Nat.{ℕ, zero, suc, _+_, _-_, _*_, _/_, _%_, _^_, _<_}
 use mathlib.Core.Path.{_≡_, refl, sym, ap, ap₂, _∙_}
 use mathlib.Core.List.{List, [], _∷_, _++_, append-assoc}
-use native.Mathlib.Nat.{add-zero, zero-add, add-comm, mul-comm}
+use native.Mathlib.Nat.{zero-add}
 use native.Mathlib.Omega.{arith}
 use lib.ListN.{length, take, drop, getD, length-append}
-use Rattle.std.proofs.shelf.Bits.{mod-pow-add, mod-low, shr-high, shr-split}
+use Rattle.std.proofs.shelf.Bits.{shr-split}
 use Rattle.std.proofs.shelf.Lists.{take-at, drop-at, drop-drop}
 use Rattle.blocks.specs.Bits.{bit, field, number}
 use Rattle.blocks.specs.Groups.{without, with-digit, words}
-use Rattle.blocks.proofs.Fields.{length-field, field-append, field-shift, field-low, field-high, field-join, number-field}
+use Rattle.blocks.proofs.Fields.{length-field, field-append, field-shift, field-low, field-join, number-field}
 
 -- four low bits in front of sixty
 pub carried-bits : (carry x : ℕ) → carry < 16 → field (x * 16 % 2 ^ 64 + carry) 0 64 ≡ field carry 0 4 ++ field x 0 60

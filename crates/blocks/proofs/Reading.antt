@@ -1,13 +1,12 @@
 -- The three cases of reading a group back.
-use Prim.Native.Nat.{ℕ, zero, suc, _+_, _*_, _<_, _≤_}
-use mathlib.Core.Path.{_≡_, refl, sym, ap, ap₂, _∙_}
-use mathlib.Core.Bool.{Bool, true, false, cond}
-use mathlib.Core.List.{List, [], _∷_, _++_, map}
-use lib.ListN.{length, getD, take, drop}
+use Prim.Native.Nat.{ℕ, _+_, _*_}
+use mathlib.Core.Path.{_≡_, refl}
+use mathlib.Core.Bool.{true, false}
+use mathlib.Core.List.{List, [], _∷_, _++_}
+use lib.ListN.{take, drop}
 use Rattle.blocks.specs.Bits.{field, number}
-use Rattle.blocks.specs.Groups.{blocks-of, words, read-back, flags-back, control-back, some-zero, first-zero, high-digit, with-digit}
-use Rattle.blocks.specs.declared.block.Block.{Block}
-use Rattle.blocks.specs.declared.block.Header.the-variants.{Zeros, Control, Data, Ones}
+use Rattle.blocks.specs.Groups.{blocks-of, read-back, flags-back, control-back, some-zero, first-zero, high-digit, with-digit}
+use Rattle.blocks.specs.declared.block.Header.the-variants.{Zeros, Data, Ones}
 use Rattle.blocks.proofs.Parts.{take-in}
 
 -- bit 0 is 1

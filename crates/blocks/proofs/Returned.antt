@@ -1,10 +1,10 @@
 -- What comes back of a group, and that a sound one comes back as it was.
-use Prim.Native.Nat.{ℕ, zero, suc, _+_, _*_, _/_, _%_, _^_, _<_, _≤_}
+use Prim.Native.Nat.{ℕ, zero, suc, _+_, _*_, _/_, _%_, _^_, _<_}
 use mathlib.Core.Path.{_≡_, refl, sym, ap, ap₂, _∙_, subst}
 use mathlib.Core.Bool.{Bool, true, false, cond}
-use mathlib.Core.Logic.{_⊎_, inl, inr}
+use mathlib.Core.Logic.{inl, inr}
 use mathlib.Core.List.{List, [], _∷_, _++_, map, append-assoc}
-use native.Mathlib.Nat.{div-one, mul-suc}
+use native.Mathlib.Nat.{div-one}
 use native.Mathlib.Omega.{arith}
 use lib.Dec.{eqb, lit<}
 use lib.ListN.{length, getD, take, drop, set}
@@ -12,15 +12,16 @@ use Rattle.std.specs.declared.option.Option.{Option}
 use Rattle.std.specs.declared.option.Option.the-variants.{None, Some}
 use Rattle.std.proofs.shelf.Bits.{field-of}
 use Rattle.std.proofs.shelf.Lists.{take-at, drop-at, length-set}
-use Rattle.std.proofs.shelf.Tests.{cases-bool, cases-lt, eqb-true, eq-eqb}
+use Rattle.std.proofs.shelf.Tests.{cases-bool, cases-lt, eqb-true}
 use Rattle.blocks.specs.Bits.{field, number}
-use Rattle.blocks.specs.Blocks.{second-bit, good, is-control, payload-bits}
+use Rattle.blocks.specs.Blocks.{second-bit, good, payload-bits}
 use Rattle.blocks.specs.Groups.{headers, payloads, all-good, some-control, first-control, without, with-digit, group-bits, types, fitting, high-digit, flagged, some-zero, first-zero, blocks-of, control-back, flags-back, read-back}
-use Rattle.blocks.specs.Sound.{among, is-type, payload-at, sound, retyped, put-digit, with-headers, control-comes, comes-back, Payloads, Returns, Groups-return}
+use Rattle.blocks.specs.Sound.{is-type, payload-at, sound, retyped, put-digit, with-headers, control-comes, comes-back, Payloads, Groups-return}
 use Rattle.blocks.specs.declared.block.Header.{Header}
 use Rattle.blocks.specs.declared.block.Header.the-variants.{Zeros, Control, Data, Ones}
 use Rattle.blocks.specs.declared.block.Block.{Block}
-use Rattle.blocks.proofs.Fields.{length-field, field-append, number-field, number-whole}
+use Rattle.blocks.proofs.Fields.{length-field, number-field, number-whole}
+use Rattle.blocks.proofs.Reading.{data-read}
 use Rattle.blocks.proofs.Parts.{around, take-past, drop-past, without-past, take-in, drop-in}
 
 -- four bits left out of a part and four put in
@@ -208,10 +209,6 @@ bad-flags : (rest : List ℕ) → flags-back (1 ∷ 1 ∷ 1 ∷ 1 ∷ []) rest �
 unfolding flags-back
 bad-flags rest = refl
 
-data-read : (rest : List ℕ) → read-back (1 ∷ rest) ≡ blocks-of (Data ∷ Data ∷ Data ∷ Data ∷ []) rest
-unfolding read-back
-data-read rest = refl
-
 module _ (a b c d : Block) (p : Payloads (a ∷ b ∷ c ∷ d ∷ [])) where
   four-return : read-back (group-bits (a ∷ b ∷ c ∷ d ∷ [])) ≡ comes-back (a ∷ b ∷ c ∷ d ∷ [])
   four-return =
@@ -230,7 +227,7 @@ module _ (a b c d : Block) (p : Payloads (a ∷ b ∷ c ∷ d ∷ [])) where
               ∙ control-returned hs k bs (high-digit (payload-at k bs % 16)) refl l p (high-digit-small (payload-at k bs % 16)) fs (flags-headers hs g)
               ∙ sym (control-came bs g s)
           | inr s ↦
-              ap read-back (data-written bs g s) ∙ data-read (payloads bs) ∙ under (Data ∷ Data ∷ Data ∷ Data ∷ []) bs refl p
+              ap read-back (data-written bs g s) ∙ sym (data-read (payloads bs)) ∙ under (Data ∷ Data ∷ Data ∷ Data ∷ []) bs refl p
               ∙ ap (λ (l : List Header). with-headers l bs) (all-data hs g s) ∙ own-headers bs ∙ sym (data-came bs g s)
         ]
         | inr g ↦

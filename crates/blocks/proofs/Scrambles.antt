@@ -1,11 +1,11 @@
 -- Laws of the scrambled stream.
 use Prim.Native.Nat.{ℕ, zero, suc, _+_, _-_, _<_, _≤_}
-use mathlib.Core.Path.{_≡_, refl, sym, ap, ap₂, _∙_, subst}
-use mathlib.Core.List.{List, [], _∷_, _++_}
+use mathlib.Core.Path.{_≡_, refl, sym, ap, ap₂, _∙_}
+use mathlib.Core.List.{List, _∷_, _++_}
 use native.Mathlib.Nat.{add-zero, add-suc, zero-add, suc-add}
 use native.Mathlib.Omega.{arith}
 use lib.Bits.{bitXor, xor-assoc, xor-self, xor-zero-r}
-use lib.ListN.{length, getD, length-append}
+use lib.ListN.{length, length-append}
 use Rattle.std.proofs.shelf.Lists.{getD-append-left, getD-append-add}
 use Rattle.blocks.specs.Bits.{bit, field, table, nth}
 use Rattle.blocks.specs.Scrambled.{before, scrambled, received, descrambled, scrambled-bits, scrambler-after, descrambled-bits, descrambler-after, Scrambling}
@@ -78,7 +78,7 @@ received-scrambled past xs zero k = refl
 received-scrambled past xs (suc n) zero = refl
 received-scrambled past xs (suc n) (suc k) = received-scrambled past xs n k
 
-cancel : (a b : ℕ) → bitXor (bitXor a b) b ≡ a
+pub cancel : (a b : ℕ) → bitXor (bitXor a b) b ≡ a
 cancel a b = xor-assoc a b b ∙ ap (bitXor a) (xor-self b) ∙ xor-zero-r a
 
 scrambling-undone : (past xs : ℕ → ℕ) (n : ℕ) → descrambled past (scrambled past xs) n ≡ xs n

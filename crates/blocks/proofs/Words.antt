@@ -3,31 +3,22 @@ use Prim.Native.Nat.{ℕ, zero, suc, _+_, _-_, _*_, _/_, _%_, _^_, _<_, _≤_}
 use mathlib.Core.Path.{_≡_, refl, sym, ap, ap₂, _∙_, subst}
 use mathlib.Core.List.{List, [], _∷_, _++_, append-nil}
 use mathlib.Core.Bool.{Bool, true, false}
-use mathlib.Core.Logic.{_⊎_, inl, inr}
+use mathlib.Core.Logic.{inl, inr}
 use native.Mathlib.Nat.{add-zero, mul-assoc, mul-comm, add-mul, add-suc, suc-add, zero-add, div-one, div-eq-of-lt, zero-div, mul-mod-left, mul-add-mod-self-right}
 use native.Mathlib.Numerals.{one-add}
 use native.Mathlib.Omega.{arith}
-use lib.Bits.{bitXor, xor-assoc, xor-comm, xor-self, xor-zero-r, xor-zero-l, xor-shr, xor-mod, xor-shifted, xor-block}
-use lib.ListN.{length}
-use Rattle.std.proofs.shelf.Bits.{shr-shr, pow-add, pow-pos, shl-shr, field-of, mod-pow-add, mod-low, shr-high, div-add-mod'}
+use lib.Bits.{bitXor, xor-assoc, xor-comm, xor-zero-r, xor-shr, xor-mod, xor-shifted, xor-block}
+use Rattle.std.proofs.shelf.Bits.{shr-shr, pow-add, pow-pos, shl-shr, mod-low, shr-high, div-add-mod'}
 use Rattle.std.specs.Numbers.{reversedOnto}
 use Rattle.std.proofs.shelf.Tests.{cases-lt}
 use Rattle.blocks.specs.Bits.{bit, field, table, nth}
 use Rattle.blocks.specs.Scrambled.{before, scrambled, received, descrambled, scrambled-bits, scrambler-after, descrambled-bits, descrambler-after, memory-in}
 use Rattle.blocks.specs.Groups.{words, one-if}
 use Rattle.blocks.specs.Taps.{tail, taps}
-use Rattle.blocks.proofs.Fields.{length-field}
-use Rattle.blocks.proofs.Scrambles.{table-same, nth-table, field-table, before-same, received-same}
+use Rattle.blocks.proofs.Fields.{length-field, bit-mod}
+use Rattle.blocks.proofs.Scrambles.{cancel, table-same, nth-table, field-table, before-same, received-same}
 
 -- bits of a number
-pub bit-mod : (x n i : ℕ) → i < n → bit (x % 2 ^ n) i ≡ bit x i
-bit-mod x n i l =
-    let e : n ≡ (n - i) + i = omega arith in
-    let j : n - i ≡ (n - i - 1) + 1 = omega arith in
-    ap (λ (m : ℕ). x % 2 ^ m / 2 ^ i % 2) e ∙ ap (λ (y : ℕ). y % 2) (field-of x (n - i) i)
-    ∙ ap (λ (m : ℕ). x / 2 ^ i % 2 ^ m % 2) j ∙ ap (λ (y : ℕ). y % 2) (mod-pow-add (x / 2 ^ i) (n - i - 1) 1)
-    ∙ omega arith
-
 pub bit-xor : (a b i : ℕ) → bit (bitXor a b) i ≡ bitXor (bit a i) (bit b i)
 bit-xor a b i = ap (λ (y : ℕ). y % 2) (xor-shr a b i) ∙ xor-mod (a / 2 ^ i) (b / 2 ^ i) 1
 
@@ -72,9 +63,6 @@ medial p q r s =
     xor-assoc p q (bitXor r s)
     ∙ ap (bitXor p) (sym (xor-assoc q r s) ∙ ap (λ (x : ℕ). bitXor x s) (xor-comm q r) ∙ xor-assoc r q s)
     ∙ sym (xor-assoc p r (bitXor q s))
-
-pub cancel : (a b : ℕ) → bitXor (bitXor a b) b ≡ a
-cancel a b = xor-assoc a b b ∙ ap (bitXor a) (xor-self b) ∙ xor-zero-r a
 
 taps-bit : (x i : ℕ) → i < 64 → bit (taps x) i ≡ bitXor (bitXor (bit x i) (bit (x * 2 ^ 39) i)) (bit (x * 2 ^ 58) i)
 taps-bit x i l =

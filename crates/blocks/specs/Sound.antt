@@ -4,12 +4,12 @@ use mathlib.Core.Path.{_≡_}
 use mathlib.Core.List.{List, [], _∷_}
 use mathlib.Core.Bool.{Bool, true, false, cond}
 use lib.Dec.{eqb}
-use lib.ListN.{length, getD, set}
+use lib.ListN.{length, set}
 use Rattle.std.specs.declared.option.Option.{Option}
 use Rattle.std.specs.declared.option.Option.the-variants.{None, Some}
 use Rattle.blocks.specs.Groups.{headers, all-good, some-control, first-control, types, high-digit, group-bits, read-back}
 use Rattle.blocks.specs.declared.block.Header.{Header}
-use Rattle.blocks.specs.declared.block.Header.the-variants.{Zeros, Control, Data, Ones}
+use Rattle.blocks.specs.declared.block.Header.the-variants.{Zeros, Ones}
 use Rattle.blocks.specs.declared.block.Block.{Block}
 
 abbrev pub among : List ℕ → ℕ → Bool

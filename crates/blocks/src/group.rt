@@ -2,8 +2,8 @@
 ghost use mathlib.Core.Path.{_≡_};
 ghost use mathlib.Core.Bool.{true, false};
 ghost use mathlib.Core.List.{[], _∷_, _++_, map};
-ghost use Prim.Native.Nat.{ℕ, _+_, _*_, _/_, _%_, _^_, _<_, _≤_};
-ghost use lib.ListN.{length, getD, take, drop};
+ghost use Prim.Native.Nat.{_+_, _*_, _/_, _%_, _^_, _<_};
+ghost use lib.ListN.{getD, take, drop};
 ghost use Rattle.std.specs.Options.{Cases as BySome};
 ghost use Rattle.std.specs.Slices.{found};
 ghost use Rattle.blocks.specs.Bits.{field, number};
@@ -29,7 +29,7 @@ fn is_good(h: Header) -> bool
     }
 }
 
-pub(crate) fn are_good(a: Header, b: Header, c: Header, d: Header) -> bool
+fn are_good(a: Header, b: Header, c: Header, d: Header) -> bool
     ensures { λ r. ⌜ r ≡ all-good (a ∷ b ∷ c ∷ d ∷ []) ⌝ }
 {
     is_good(a) && is_good(b) && is_good(c) && is_good(d)
@@ -45,7 +45,7 @@ fn is_control(h: Header) -> bool
 }
 
 // The place of the first control block.
-pub(crate) fn first_control(a: Header, b: Header, c: Header, d: Header) -> Option<usize>
+fn first_control(a: Header, b: Header, c: Header, d: Header) -> Option<usize>
     ensures { λ r. ⌜ BySome r (some-control (a ∷ b ∷ c ∷ d ∷ []) ≡ false) (λ at. (some-control (a ∷ b ∷ c ∷ d ∷ []) ≡ true) × (first-control (a ∷ b ∷ c ∷ d ∷ []) ≡ at) × (at < 4)) ⌝ }
 {
     if is_control(a) {
@@ -72,7 +72,7 @@ fn flag(h: Header) -> u64
 }
 
 // The second header bits, the first block's lowest.
-pub(crate) fn flags(a: Header, b: Header, c: Header, d: Header) -> u64
+fn flags(a: Header, b: Header, c: Header, d: Header) -> u64
     ensures value { λ r. ⌜ field r 0 4 ≡ map second-bit (a ∷ b ∷ c ∷ d ∷ []) ⌝ }
     ensures bound { λ r. ⌜ r < 16 ⌝ }
 {
@@ -96,7 +96,7 @@ fn shortened(carry: u64, x: u64) -> u64
 }
 
 // Four flags and the payloads, without the digit of payload `at`.
-pub(crate) fn without_digit(flags: u64, at: usize, a: u64, b: u64, c: u64, d: u64) -> [u64; 4]
+fn without_digit(flags: u64, at: usize, a: u64, b: u64, c: u64, d: u64) -> [u64; 4]
     requires { ⌜ flags < 16 ⌝ ∗ ⌜ at < 4 ⌝ }
     ensures { λ r. ⌜ words r ≡ field flags 0 4 ++ without (64 * at + 4) (words (a ∷ b ∷ c ∷ d ∷ [])) ⌝ }
 {
@@ -119,7 +119,7 @@ pub(crate) fn without_digit(flags: u64, at: usize, a: u64, b: u64, c: u64, d: u6
 }
 
 // The high digit of the type that has this low digit.
-pub(crate) fn high_digit(low: u64) -> Option<u64>
+fn high_digit(low: u64) -> Option<u64>
     ensures value { λ r. ⌜ r ≡ high-digit low ⌝ }
     ensures bound { λ r. ⌜ found r (λ d. d < 16) ⌝ }
 {
@@ -147,7 +147,7 @@ fn bit(x: u64, i: u32) -> u64
 }
 
 // The place of the first flag that is 0.
-pub(crate) fn first_zero(flags: u64) -> Option<usize>
+fn first_zero(flags: u64) -> Option<usize>
     ensures { λ r. ⌜ BySome r (some-zero (field flags 0 4) ≡ false) (λ at. (some-zero (field flags 0 4) ≡ true) × (first-zero (field flags 0 4) ≡ at) × (at < 4)) ⌝ }
 {
     if bit(flags, 0) == 0 {
@@ -179,7 +179,7 @@ fn restored(x: u64, digit: u64) -> u64
 }
 
 // The payloads behind the flags, with the digit of payload `at` put back.
-pub(crate) fn with_digit(digit: u64, at: usize, a: u64, b: u64, c: u64, d: u64) -> [u64; 4]
+fn with_digit(digit: u64, at: usize, a: u64, b: u64, c: u64, d: u64) -> [u64; 4]
     requires { ⌜ digit < 16 ⌝ ∗ ⌜ at < 4 ⌝ }
     ensures { λ r. ⌜ words r ≡ with-digit (64 * at + 4) digit (drop 4 (words (a ∷ b ∷ c ∷ d ∷ []))) ⌝ }
 {

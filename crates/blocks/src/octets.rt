@@ -1,10 +1,10 @@
 // Octets: 64 bits out of eight of them and back, and block records.
 ghost use mathlib.Core.Path.{_≡_};
-ghost use mathlib.Core.List.{[], _∷_, _++_};
-ghost use Prim.Native.Nat.{ℕ, _+_, _*_, _<_, _≤_};
-ghost use lib.ListN.{length, take, drop, getD};
+ghost use mathlib.Core.List.{_++_};
+ghost use Prim.Native.Nat.{_+_, _≤_};
+ghost use lib.ListN.{length, take, drop};
 ghost use Rattle.blocks.specs.Bits.{field, octet-bits, octets};
-ghost use Rattle.blocks.specs.Blocks.{header-of, kind-of, block-in, record-of};
+ghost use Rattle.blocks.specs.Blocks.{header-of, kind-of, block-in};
 ghost use Rattle.blocks.specs.Calls.{bad-kind};
 use crate::block::Block;
 use crate::block::Header;

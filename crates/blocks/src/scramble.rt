@@ -1,7 +1,7 @@
 // Scrambling groups, and reading them back. The stream never restarts: the memory goes on from group to group.
 ghost use mathlib.Core.Path.{_≡_};
 ghost use mathlib.Core.List.{[], _∷_};
-ghost use Prim.Native.Nat.{ℕ, _+_, _*_, _/_, _%_, _^_, _<_, _≤_};
+ghost use Prim.Native.Nat.{_%_, _^_, _<_};
 ghost use Rattle.blocks.specs.Bits.{field};
 ghost use Rattle.blocks.specs.Groups.{one-if, bits-of};
 ghost use Rattle.blocks.specs.Memories.{out-memory, in-memory, Started};

@@ -1,7 +1,5 @@
 // Reading records one by one.
 ghost use mathlib.Core.Path.{_≡_};
-ghost use Prim.Native.Nat.{ℕ, _+_, _<_, _≤_};
-ghost use lib.ListN.{length};
 ghost use Rattle.blocks.specs.Records.{size-of, item-of, look, rest-at, moved};
 ghost use Rattle.blocks.specs.Walk.{item, shown, Visits};
 use crate::reader::Reader;

@@ -1,10 +1,10 @@
 -- Steps of writing a line.
-use Prim.Native.Nat.{ℕ, zero, suc, _+_, _*_, _/_, _%_, _<_, _≤_}
+use Prim.Native.Nat.{ℕ, _+_, _*_, _/_, _%_, _<_}
 use mathlib.Core.Path.{_≡_, refl, sym, ap, ap₂, _∙_}
 use mathlib.Core.List.{List, [], _∷_, _++_, append-assoc}
 use native.Mathlib.Omega.{arith}
 use lib.ListN.{length, take, drop, set, getD, length-set, length-drop}
-use Rattle.std.proofs.shelf.Lists.{take-more, take-more-set, take-set-le, drop-set-lt, getD-drop}
+use Rattle.std.proofs.shelf.Lists.{take-more, take-more-set, drop-set-lt, getD-drop}
 use Rattle.groups.specs.Lines.{digit, digits}
 
 digits-more : (xs : List ℕ) (x : ℕ) → digits (xs ++ x ∷ []) ≡ digits xs ++ digit (x / 16) ∷ digit (x % 16) ∷ []

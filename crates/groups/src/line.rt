@@ -1,7 +1,6 @@
 // A group as a line of text.
 ghost use mathlib.Core.Path.{_≡_};
 ghost use Prim.Native.Nat.{_<_};
-ghost use lib.ListN.{length};
 ghost use Rattle.groups.specs.Lines.{digit, line-of};
 
 fn digit(n: u8) -> u8

@@ -1,10 +1,9 @@
-use mathlib.Core.Path.{_≡_, refl, sym, ap, _∙_}
-use mathlib.Core.List.{List, [], _∷_}
+use mathlib.Core.Path.{_≡_, sym, ap, _∙_}
+use mathlib.Core.List.{List, _∷_}
 use Prim.Native.Nat.{ℕ}
 use lib.ListN.{length, getD, set}
 use borrow.Author.Needs.{needs}
-use Rattle.blocks.specs.Groups.{words, one-if, group-octets, bits-of}
-use Rattle.blocks.specs.declared.group.Group.{Group}
+use Rattle.blocks.specs.Groups.{words, one-if, group-octets}
 use Rattle.blocks.proofs.Written.{four}
 use Rattle.blocks.proofs.Buffers.{laid-out}
 use Rattle.blocks.proofs.calls.put.Needs as need

@@ -1,6 +1,4 @@
 use borrow.Author.Needs.{needs}
-use native.Mathlib.Omega.{arith}
-use Rattle.std.proofs.shelf.Ways.{tells}
 use Rattle.blocks.specs.Bits.{field}
 use Rattle.blocks.proofs.group.first_zero.Needs as need
 

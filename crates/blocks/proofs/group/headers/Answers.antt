@@ -1,4 +1,3 @@
-use borrow.Author.Needs.{needs}
 use Rattle.blocks.specs.Bits.{field}
 use Rattle.blocks.proofs.group.headers.Needs as need
 

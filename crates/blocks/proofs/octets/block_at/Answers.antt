@@ -1,13 +1,11 @@
 use mathlib.Core.Path.{_≡_, sym, ap, ap₂, _∙_}
 use mathlib.Core.List.{List}
-use Prim.Native.Nat.{ℕ, _+_, _*_, _/_, _%_, _^_, _<_}
+use Prim.Native.Nat.{ℕ}
 use native.Mathlib.Nat.{add-zero}
-use native.Mathlib.Omega.{arith}
 use lib.ListN.{getD, take, drop}
 use Rattle.std.proofs.shelf.Lists.{drop-drop, getD-drop}
-use Rattle.blocks.specs.Bits.{field, number, octet-bits}
+use Rattle.blocks.specs.Bits.{number, octet-bits}
 use Rattle.blocks.specs.Blocks.{header-of}
-use Rattle.blocks.specs.declared.block.Block.{Block}
 use Rattle.blocks.specs.declared.block.Header.{Header}
 use Rattle.blocks.proofs.Fields.{number-whole}
 use Rattle.blocks.proofs.octets.block_at.Needs as need

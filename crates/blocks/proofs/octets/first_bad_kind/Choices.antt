@@ -1,5 +1,4 @@
 use mathlib.Core.Path.{_≡_}
-use Prim.Native.Nat.{ℕ}
 use Rattle.std.specs.declared.option.Option.the-variants.{None}
 use Rattle.blocks.specs.Calls.{lowest, kind-above-3}
 use Rattle.blocks.proofs.octets.first_bad_kind.Given as given

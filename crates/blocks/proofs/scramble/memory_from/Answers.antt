@@ -1,4 +1,4 @@
-use Prim.Native.Nat.{ℕ, _/_, _^_, _<_}
+use Prim.Native.Nat.{_^_, _<_}
 use native.Mathlib.Omega.{arith}
 use Rattle.blocks.proofs.Words.{started}
 use Rattle.blocks.proofs.scramble.memory_from.Needs as need

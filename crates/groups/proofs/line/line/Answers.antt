@@ -2,7 +2,7 @@ use mathlib.Core.Path.{_≡_, refl, sym, ap, ap₂, _∙_}
 use mathlib.Core.List.{List, [], _∷_, _++_}
 use Prim.Native.Nat.{ℕ, _+_, _-_, _*_, _%_}
 use native.Mathlib.Omega.{arith}
-use lib.ListN.{length, take, drop, set, getD, length-set, length-drop}
+use lib.ListN.{length, take, drop, getD, length-set, length-drop}
 use Rattle.std.proofs.shelf.Lists.{take-all, take-append-drop}
 use Rattle.groups.specs.Lines.{digit, digits, line-of}
 use Rattle.groups.proofs.Texts.{line-more, line-end}

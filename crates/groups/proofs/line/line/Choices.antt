@@ -1,6 +1,6 @@
 use mathlib.Core.Path.{_≡_}
 use mathlib.Core.List.{[], _∷_, _++_}
-use Prim.Native.Nat.{ℕ, _+_, _*_, _%_}
+use Prim.Native.Nat.{_+_, _*_, _%_}
 use lib.ListN.{length, take, drop, getD}
 use Rattle.groups.specs.Lines.{digit, digits}
 use Rattle.groups.proofs.line.line.Given as given

@@ -3,10 +3,9 @@ use mathlib.Core.List.{List}
 use Prim.Native.Nat.{ℕ, _+_, _-_, _<_, _≤_}
 use native.Mathlib.Omega.{arith}
 use lib.ListN.{length, getD, take, drop}
-use borrow.Author.Needs.{needs}
 use Rattle.std.specs.declared.option.Option.the-variants.{Some}
 use Rattle.std.specs.declared.result.Result.the-variants.{Ok}
-use Rattle.blocks.specs.Records.{Item, item-of, size-of, look, rest-at, moved}
+use Rattle.blocks.specs.Records.{Item, item-of, size-of}
 use Rattle.blocks.proofs.Walking.{at-end, unknown, cut-short, stands, goes-on, known-kind, unknown-kind}
 use Rattle.blocks.proofs.reader.Reader.next.Needs as need
 
