@@ -1,0 +1,4 @@
+-- The field of 1,024 elements.
+pub mod Product
+pub mod Closed
+pub mod Field
