@@ -20,12 +20,7 @@ use Rattle.blocks.specs.declared.block.Block.{Block}
 use Rattle.blocks.specs.declared.refusal.Refusal.{Refusal}
 use Rattle.blocks.specs.declared.refusal.Refusal.the-variants.{Length}
 use Rattle.blocks.proofs.Fields.{length-field}
-use Rattle.blocks.proofs.Bytes.{octets-append, put-more, octet-bits-next, octet-bits-none}
-
-length-octets : (n : ℕ) (bs : List ℕ) → length (octets n bs) ≡ n
-unfolding octets
-length-octets zero bs = refl
-length-octets (suc n) bs = ap suc (length-octets n (drop 8 bs))
+use Rattle.blocks.proofs.Bytes.{length-octets, octets-append, put-more, octet-bits-next, octet-bits-none}
 
 octets-words : (a b c d : ℕ) → octets 32 (words (a ∷ b ∷ c ∷ d ∷ [])) ≡ octets 8 (field a 0 64) ++ (octets 8 (field b 0 64) ++ (octets 8 (field c 0 64) ++ octets 8 (field d 0 64)))
 octets-words a b c d =

@@ -93,6 +93,11 @@ put-at xs ys at n =
     let e : at + n - at ≡ n = omega arith in
     ap (λ (k : ℕ). putMid at k xs ys) e ∙ ap (λ (zs : List ℕ). take at xs ++ (ys ++ zs)) (drop-drop n at xs)
 
+pub length-octets : (n : ℕ) (bs : List ℕ) → length (octets n bs) ≡ n
+unfolding octets
+length-octets zero bs = refl
+length-octets (suc n) bs = ap suc (length-octets n (drop 8 bs))
+
 -- octets of bits one after another
 pub octets-append : (m n : ℕ) (xs ys : List ℕ) → length xs ≡ 8 * m → octets (m + n) (xs ++ ys) ≡ octets m xs ++ octets n ys
 unfolding octets

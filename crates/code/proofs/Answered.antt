@@ -27,16 +27,17 @@ checked-out w Length h formed = h (formed .size)
 checked-out w (Symbol i) h formed = not-formed w i (h .1) formed
 checked-out w Reach h formed = h
 
--- reach 0: a codeword stays, and no other word is near one
-pub untouched : (w : List ℕ) → Codeword w → Repaired 0 w w 0
+-- a codeword stays
+pub untouched : (reach : ℕ) (w : List ℕ) → Codeword w → Repaired reach w w 0
 unfolding distance
-untouched w code = record {
+untouched reach w code = record {
   formed = code .formed;
   codeword = code;
   changed = count-none 544 (λ i. getD w i 0) (λ i. getD w i 0) (λ i l. refl);
   within = omega arith;
 }
 
+-- with reach 0 no other word is near one
 pub none-near : (w : List ℕ) → WellFormed w → (Codeword w → ⊥) → (c : List ℕ) → Codeword c → distance w c ≤ 0 → ⊥
 unfolding distance
 none-near w formed other c code near = other (subst Codeword (sym same) code)

@@ -5,5 +5,9 @@ pub mod Far
 mod Answered
 mod Decoded
 mod Generator
+mod ProductLists
+mod TapProducts
+mod Shifting
 mod Division
+mod WordRemainders
 pub mod Agree

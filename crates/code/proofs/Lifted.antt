@@ -1,6 +1,5 @@
 -- Words of symbols and words of elements: the values agree, so codewords are codewords.
 use mathlib.Core.Path.{_≡_, refl, sym, _∙_, ap}
-use mathlib.Core.Bool.{Bool, true, false}
 use mathlib.Core.List.{List, map}
 use Prim.Native.Nat.{ℕ, zero, suc, _-_, _%_, _<_}
 use native.Mathlib.Omega.{arith}
@@ -10,14 +9,12 @@ use Rattle.field.specs.Sums.{sum, pow, syndrome, word-value}
 use Rattle.field.specs.Places.{Apart}
 use Rattle.field.proofs.Sums.{sum-same}
 use Rattle.field.proofs.WordValues.{value-same, syndrome-value}
-use Rattle.std.specs.Orderings.{When}
-use Rattle.decoder.specs.Decoding as decoding
 use Rattle.gf1024.specs.declared.element.Element.{Element}
 use Rattle.gf1024.specs.Product.{times}
 use Rattle.gf1024.specs.Field.{sums, products, group, ring, alpha, element}
 use Rattle.gf1024.proofs.Elements.{same, laws}
-use Rattle.code.specs.Code.{root, value, WellFormed, Codeword}
-use Rattle.code.specs.Lifting.{at, Loaded, Points}
+use Rattle.code.specs.Code.{root, value, Codeword}
+use Rattle.code.specs.Lifting.{at, Points}
 
 sum-value : (n : ℕ) (f : ℕ → Element) → sum group n f .value ≡ sum sums n (λ i. f i .value)
 sum-value zero f = refl
@@ -65,27 +62,6 @@ module _ (n : ℕ) (w : List ℕ) (c points : ℕ → Element) (size : length w 
   pub syndromes-zero : Codeword w → (k : ℕ) → k < 30 → syndrome group ring n points c k ≡ group .zero
   syndromes-zero code k l = same _ _ (syndrome-is k ∙ code .roots k l)
 
-  pub roots-from : ((k : ℕ) → k < 30 → syndrome group ring n points c k ≡ group .zero) → (k : ℕ) → k < 30 → value w (root k) ≡ 0
-  roots-from h k l = sym (syndrome-is k) ∙ ap (λ (x : Element). x .value) (h k l)
-
 -- the symbols as a list of elements
 pub at-map : (w : List ℕ) (i : ℕ) → at (map element w) i ≡ element (getD w i 0)
 at-map w i = ap (getD (map element w) i) (same (group .zero) (element 0) refl) ∙ List·getD-map element w i 0
-
--- a test of the elements is a test of the symbols
-pub tested : (w : List ℕ) (es xs : List Element) (b : Bool) → WellFormed w → length es ≡ 544 → Loaded w (length w) es → Points 544 xs
-    → When b (decoding.Codeword group ring xs (length es) 30 es) (decoding.Codeword group ring xs (length es) 30 es → ⊥) → When b (Codeword w) (Codeword w → ⊥)
-tested w es xs b formed size loaded points h = go b h
-  where
-    same-size : length w ≡ length es
-    same-size = formed .size ∙ sym size
-
-    small : (i : ℕ) → i < length es → getD w i 0 < 1024
-    small i l = formed .symbols i (omega arith)
-
-    is : (i : ℕ) → i < length es → at es i ≡ element (getD w i 0)
-    is i l = loaded i (let e = same-size in omega arith)
-
-    go : (b : Bool) → When b (decoding.Codeword group ring xs (length es) 30 es) (decoding.Codeword group ring xs (length es) 30 es → ⊥) → When b (Codeword w) (Codeword w → ⊥)
-    go true h = record { formed = formed; roots = roots-from (length es) w (at es) (at xs) same-size small is (points-are (length es) xs size points) h }
-    go false h = λ code. h (syndromes-zero (length es) w (at es) (at xs) same-size small is (points-are (length es) xs size points) code)

@@ -2,7 +2,10 @@
 mod encoder;
 mod engine;
 mod full;
+mod places;
+mod products;
 mod refusal;
+mod remainder;
 mod symbols;
 mod watch;
 mod word;

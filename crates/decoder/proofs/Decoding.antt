@@ -20,7 +20,7 @@ use mathlib.Core.Bool.{Bool, true, false}
 use native.Mathlib.Decide.{decLt}
 use Rattle.std.specs.Orderings.{When}
 use Rattle.decoder.specs.Errors.{Found, Subtracted, gaps, error-value}
-use Rattle.decoder.specs.Decoding.{Codeword, Near, Decoded}
+use Rattle.decoder.specs.Decoding.{Codeword, Near, Proposal, Decoded}
 use Rattle.decoder.specs.Words.{word-syndrome}
 use Rattle.decoder.proofs.ErrorValues.{remaining-same, remaining-term, gaps-open}
 
@@ -172,6 +172,10 @@ module _ {F : Type 0} (g : Group F) (r : Ring F) (laws : FieldLaws g r) where
               (less .done (p .0) (p .1) ∙ ap (λ z. getD word (place (p .0)) 𝟎 ⊕ minus z) (value (p .0) (p .1)) ∙ back (place (p .0)))
           go (no p) = less .rest i (λ t h e. p (t, h, e)) ∙ ⊎-elim (λ e. error-zero g r laws n (2 * reach) (λ k. getD xs k 𝟎) (λ k. getD word k 𝟎) (λ k. getD c k 𝟎) code i e) (λ q. absurd (p q)) (found-at i l)
 
-      pub decoded : (b : Bool) → When b (Codeword g r xs n (2 * reach) out) (Codeword g r xs n (2 * reach) out → ⊥) → Decoded g r xs n reach word out b
-      decoded true h = record { codeword = h; near = near; only = the-word }
-      decoded false h = λ c code close. h (λ k l. sum-same g n (λ i. getD out i 𝟎 ⊗ pow r (getD xs i 𝟎) k) (λ i. getD c i 𝟎 ⊗ pow r (getD xs i 𝟎) k) (λ i q. ap (λ z. z ⊗ pow r (getD xs i 𝟎) k) (the-word c code close i q)) ∙ code k l)
+      pub proposal : Proposal g r xs n reach word out
+      proposal = record { near = near; only = the-word }
+
+  -- the test of a proposal decides
+  pub decoded : (xs : List F) (n reach : ℕ) (word out : List F) (b : Bool) → Proposal g r xs n reach word out → When b (Codeword g r xs n (2 * reach) out) (Codeword g r xs n (2 * reach) out → ⊥) → Decoded g r xs n reach word out b
+  decoded xs n reach word out true p h = record { codeword = h; near = p .near; only = p .only }
+  decoded xs n reach word out false p h = λ c code close. h (λ k l. sum-same g n (λ i. getD out i 𝟎 ⊗ pow r (getD xs i 𝟎) k) (λ i. getD c i 𝟎 ⊗ pow r (getD xs i 𝟎) k) (λ i q. ap (λ z. z ⊗ pow r (getD xs i 𝟎) k) (p .only c code close i q)) ∙ code k l)

@@ -2,5 +2,6 @@
 mod Rows
 mod Stages
 mod Steps
+mod Evaluation
 mod ErrorValues
 pub mod Decoding

@@ -15,12 +15,6 @@ use Rattle.decoder.specs.Errors.{Found, remaining, dropped, gaps, error-value,
 use borrow.Author.Tests.{eq-eqb, ne-eqb}
 
 module _ {F : Type 0} (g : Group F) (r : Ring F) where
-  pub row-value-next : (v : List F) (x : F) (n : ℕ) → g .plus (row-value g r n v x) (r .times (getD v n (g .zero)) (pow r x n)) ≡ row-value g r (n + 1) v x
-  row-value-next v x n = rw add-one
-
-  pub pow-next : (x : F) (n : ℕ) → r .times x (pow r x n) ≡ pow r x (n + 1)
-  pow-next x n = rw add-one
-
   -- (a x^n) x = a x^(n+1)
   pub term-next : FieldLaws g r → (a x : F) (n : ℕ) → r .times (r .times a (pow r x n)) x ≡ r .times a (pow r x (n + 1))
   term-next laws a x n = rw add-one (laws .assoc a (pow r x n) x ∙ ap (r .times a) (laws .comm (pow r x n) x))

@@ -24,6 +24,16 @@ pub record Nearest {F : Type 0} (g : Group F) (r : Ring F) (xs : List F) (n reac
   pub near : Near g n reach w out
   pub only : (c : List F) → Codeword g r xs n (2 * reach) c → Near g n reach w c → (i : ℕ) → i < n → getD out i (g .zero) ≡ getD c i (g .zero)
 
+-- out is near w, and there is no other word near w that can be a codeword
+pub record Proposal {F : Type 0} (g : Group F) (r : Ring F) (xs : List F) (n reach : ℕ) (w out : List F) : Type 0 where
+  pub near : Near g n reach w out
+  pub only : (c : List F) → Codeword g r xs n (2 * reach) c → Near g n reach w c → (i : ℕ) → i < n → getD out i (g .zero) ≡ getD c i (g .zero)
+
+-- out is a proposal, or there is no codeword near w
+abbrev pub Proposed : {F : Type 0} → Group F → Ring F → List F → ℕ → ℕ → List F → List F → Bool → Type 0
+Proposed {F = F} g r xs n reach w out b =
+    When b (Proposal g r xs n reach w out) ((c : List F) → Codeword g r xs n (2 * reach) c → Near g n reach w c → ⊥)
+
 -- out is the one codeword near w, or there is none
 abbrev pub Decoded : {F : Type 0} → Group F → Ring F → List F → ℕ → ℕ → List F → List F → Bool → Type 0
 Decoded {F = F} g r xs n reach w out b =

@@ -1,10 +1,10 @@
 -- Words of symbols and their syndromes, and rows: polynomials with the lowest coefficient first.
 use mathlib.Core.Path.{_≡_}
 use mathlib.Core.List.{List}
-use Prim.Native.Nat.{ℕ, _+_, _<_}
+use Prim.Native.Nat.{ℕ, _+_, _-_, _<_}
 use lib.ListN.{getD}
 use Rattle.field.specs.Laws.{Group, Ring}
-use Rattle.field.specs.Sums.{sum, pow, syndrome, polynomial}
+use Rattle.field.specs.Sums.{sum, pow, syndrome, polynomial, word-value}
 
 -- the syndrome k of the first n symbols of the word w at the points xs
 abbrev pub word-syndrome : {F : Type 0} → Group F → Ring F → List F → List F → ℕ → ℕ → F
@@ -21,6 +21,18 @@ Syndromes g r w xs n m s = (k : ℕ) → k < m → getD s k (g .zero) ≡ word-s
 -- the value at x of the first d coefficients of the row v
 abbrev pub row-value : {F : Type 0} → Group F → Ring F → ℕ → List F → F → F
 row-value g r d v x = polynomial g r d (λ j. getD v j (g .zero)) x
+
+-- each of the first n values times its point, and c
+abbrev pub Stepped : {F : Type 0} → Group F → Ring F → List F → List F → F → ℕ → List F → Type 0
+Stepped g r old xs c n new = (i : ℕ) → i < n → getD new i (g .zero) ≡ g .plus (r .times (getD old i (g .zero)) (getD xs i (g .zero))) c
+
+-- the first d coefficients of the row v, the highest first
+abbrev pub falling : {F : Type 0} → Group F → List F → ℕ → ℕ → F
+falling g v d t = getD v (d - 1 - t) (g .zero)
+
+-- the values at the first m of the points xs of the first n coefficients c, the highest first
+abbrev pub Values : {F : Type 0} → Group F → Ring F → (ℕ → F) → ℕ → List F → ℕ → List F → Type 0
+Values g r c n xs m ys = (i : ℕ) → i < m → getD ys i (g .zero) ≡ word-value g r n c (getD xs i (g .zero))
 
 -- the first n coefficients of v times the syndromes s from k on
 abbrev pub applied : {F : Type 0} → Group F → Ring F → List F → List F → ℕ → ℕ → F

@@ -38,18 +38,26 @@ fn add_times<F: Field + Copy>(v: [F; 16], p: &[F; 16], q: F) -> [F; 16]
 }
 
 // The row less that multiple of the pivot which makes it annihilate the place k too.
-fn reduce<F: Field + Copy>(row: &Row<F>, pivot: &Row<F>, s: &[F], k: usize, n: usize) -> Row<F>
+// The inverse of what the pivot leaves there is given.
+fn reduce<F: Field + Copy>(
+    row: &Row<F>,
+    pivot: &Row<F>,
+    over: F,
+    s: &[F],
+    k: usize,
+    n: usize,
+) -> Row<F>
     requires bounds { ⌜ n ≤ 16 ⌝ ∗ ⌜ k + n ≤ length (now s) ⌝ }
     requires row { ⌜ Candidate (F·Adds .group) (F·Field .ring) (now s) n k (now row) ⌝ }
     requires pivot { ⌜ Candidate (F·Adds .group) (F·Field .ring) (now s) n k (now pivot) ⌝ }
     requires lower { ⌜ now pivot .degree < now row .degree ⌝ }
     requires remains { ⌜ (applied (F·Adds .group) (F·Field .ring) (now pivot .coefficients) (now s) k n ≡ F·Adds .group .zero → ⊥) ⌝ }
+    requires inverse { ⌜ over ≡ F·Field .ring .over (applied (F·Adds .group) (F·Field .ring) (now pivot .coefficients) (now s) k n) ⌝ }
     ensures degree { λ r. ⌜ r .degree ≡ now (row .entry) .degree ⌝ }
     ensures candidate { λ r. ⌜ Candidate (F·Adds .group) (F·Field .ring) (now (s .entry)) n (k + 1) r ⌝ }
 {
     let a = apply(&row.coefficients, s, k, n);
-    let b = apply(&pivot.coefficients, s, k, n);
-    let q = a.mul(b.inv()).neg();
+    let q = a.mul(over).neg();
     let coefficients = add_times(row.coefficients, &pivot.coefficients, q);
     Row {
         degree: row.degree,
@@ -80,8 +88,9 @@ fn eliminate<F: Field + Copy>(rows: &mut [Row<F>], m: usize, s: &[F], k: usize, 
 {
     let p = first_open(rows, m, s, k, n);
     let pivot = rows[p];
+    let over = apply(&pivot.coefficients, s, k, n).inv();
     for i in p + 1..m {
-        rows[i - 1] = reduce(&rows[i], &pivot, s, k, n);
+        rows[i - 1] = reduce(&rows[i], &pivot, over, s, k, n);
     }
 }
 

@@ -1,33 +1,48 @@
 // The error places: the roots of the locator among the points.
-ghost use mathlib.Core.Path.{_≡_};
 ghost use Prim.Native.Nat.{_≤_};
 ghost use lib.ListN.{length};
-ghost use Rattle.decoder.specs.Words.{row-value};
+ghost use Rattle.decoder.specs.Words.{Stepped, Values, falling};
 ghost use Rattle.decoder.specs.Errors.{Found};
+use super::syndromes::clear;
 use field::Field;
 
-// The value at x of the first d coefficients of v, lowest first.
-fn evaluate<F: Field + Copy>(v: &[F], d: usize, x: F) -> F
-    requires { ⌜ d ≤ length (now v) ⌝ }
-    ensures { λ r. ⌜ r ≡ row-value (F·Adds .group) (F·Field .ring) d (now (v .entry)) x ⌝ }
+// Multiplies each value by its point, and adds the coefficient c.
+fn step<F: Field + Copy>(values: &mut [F], points: &[F], c: F)
+    requires { ⌜ length (now points) ≤ length (now values) ⌝ }
+    ensures { λ _. ⌜ Stepped (F·Adds .group) (F·Field .ring) (now (values .entry)) (now (points .entry)) c (length (now (points .entry))) (now (values .exit)) ⌝ }
 {
-    let mut sum = F::zero();
-    let mut power = F::unit();
-    for j in 0..d {
-        sum = sum.add(v[j].mul(power));
-        power = x.mul(power);
+    for i in 0..points.len() {
+        values[i] = values[i].mul(points[i]).add(c);
     }
-    sum
 }
 
-// Lists the places whose points are roots, and counts them.
-pub fn find<F: Field + Copy>(v: &[F], d: usize, points: &[F], found: &mut [usize]) -> usize
-    requires { ⌜ d ≤ length (now v) ⌝ ∗ ⌜ length (now points) ≤ length (now found) ⌝ }
+// The values at the points of the first d coefficients of v, lowest first.
+// The lengths are the caller's to see to.
+pub fn evaluate<F: Field + Copy>(v: &[F], d: usize, points: &[F], values: &mut [F])
+    requires { ⌜ d ≤ length (now v) ⌝ ∗ ⌜ length (now points) ≤ length (now values) ⌝ }
+    ensures { λ _. ⌜ Values (F·Adds .group) (F·Field .ring) (falling (F·Adds .group) (now (v .entry)) d) d (now (points .entry)) (length (now (points .entry))) (now (values .exit)) ⌝ }
+{
+    clear(values);
+    for j in 0..d {
+        step(values, points, v[d - 1 - j]);
+    }
+}
+
+// Lists the places whose points are roots, and counts them; the values are for the work.
+pub fn find<F: Field + Copy>(
+    v: &[F],
+    d: usize,
+    points: &[F],
+    values: &mut [F],
+    found: &mut [usize],
+) -> usize
+    requires { ⌜ d ≤ length (now v) ⌝ ∗ ⌜ length (now points) ≤ length (now values) ⌝ ∗ ⌜ length (now points) ≤ length (now found) ⌝ }
     ensures { λ r. ⌜ Found (F·Adds .group) (F·Field .ring) (now (v .entry)) d (now (points .entry)) (length (now (points .entry))) (now (found .exit)) r ⌝ }
 {
+    evaluate(v, d, points, values);
     let mut count = 0;
     for i in 0..points.len() {
-        if evaluate(v, d, points[i]).is_zero() {
+        if values[i].is_zero() {
             found[count] = i;
             count += 1;
         }

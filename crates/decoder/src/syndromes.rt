@@ -18,7 +18,8 @@ fn add_term<F: Field + Copy>(s: &mut [F], a: F, x: F)
     }
 }
 
-fn clear<F: Field + Copy>(s: &mut [F])
+// Makes all of s zero.
+pub fn clear<F: Field + Copy>(s: &mut [F])
     ensures { λ _. ⌜ ((k : ℕ) → k < length (now (s .entry)) → getD (now (s .exit)) k (F·Adds .group .zero) ≡ F·Adds .group .zero) ⌝ }
 {
     for k in 0..s.len() {

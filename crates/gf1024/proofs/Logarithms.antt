@@ -38,11 +38,11 @@ exps-eights : T (eights exps)
 unfolding exps
 exps-eights = tt
 
-exps-size : length (flat exps) ≡ 1024
+exps-size : length (flat exps) ≡ 2048
 unfolding exps
 exps-size = refl
 
-pub exp-at : (k : ℕ) → k < 1024 → entry exps k ≡ shifted k 1
+pub exp-at : (k : ℕ) → k < 2048 → entry exps k ≡ shifted k 1
 exp-at k h = entry-flat exps exps-eights k ∙ runs-at 1 (flat exps) all-run k (rw exps-size h)
 
 -- x is the exponent of a

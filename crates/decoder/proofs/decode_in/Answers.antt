@@ -1,40 +1,28 @@
--- The locator has few roots; with the errors there subtracted, the last check decides.
+-- The last check of the proposal decides.
+use borrow.Author.Needs.{needs}
 use mathlib.Core.Path.{_≡_, subst}
-use mathlib.Core.List.{List}
-use Prim.Native.Nat.{_+_, _*_}
+use Prim.Native.Nat.{_*_}
 use native.Mathlib.Omega.{arith}
-use lib.ListN.{length, getD}
+use lib.ListN.{length}
 use Rattle.std.specs.Orderings.{When}
-use Rattle.field.specs.Places.{Apart}
-use Rattle.decoder.specs.Errors.{Found, Subtracted}
 use Rattle.decoder.specs.Decoding.{Codeword}
-use Rattle.decoder.proofs.Decoding.{few, decoded}
+use Rattle.decoder.proofs.Decoding.{decoded}
 use Rattle.decoder.proofs.decode_in.Needs as need
 
-pub returns-then-m-reach : need.returns-then-m-reach
-returns-then-m-reach g c =
-    let G = g .F·Adds .group in
-    let R = g .F·Field .ring in
-    let xs = c .args .points .now in
-    let n = length (c .args .word .now) in
-    let reach = c .args .reach in
-    let row = c .locate-locator .result in
-    let is = c .locate-locator .ensures in
-    let m = c .find-m .result in
-    let places = c .find-m .last .found in
-    let apart : Apart n (λ i. getD xs i (G .zero)) = λ i j a b e. c .pre .points .1 i j (omega arith) (omega arith) e in
-    let found = subst (λ k. Found G R (row .coefficients) (reach + 1) xs k places m) (c .pre .points .0) (c .find-m .ensures) in
-    let h = few G R (g .F·Field·met .field) xs (row .coefficients) places n reach m (row .degree) apart (is .monic) (is .small) found in
-    λ w code near. (omega arith)
-
-pub subtract-requires : need.subtract-requires
-subtract-requires g c κs =
-    let found = c .find-m .ensures in
-    record {
-      sizes = (omega arith, (omega arith, (omega arith, (omega arith))));
-      within = λ i l. (let w = found .within i l in omega arith);
-      ascend = found .ascend;
-    }
+pub propose-in-requires : need.propose-in-requires
+propose-in-requires g c κs = (
+  search needs,
+  (
+    c .pre .points .0,
+    (
+      c .pre .points .1,
+      (
+        omega arith,
+        (omega arith, (omega arith, (omega arith, (omega arith, (omega arith, (omega arith, (omega arith, λ k l. c .compute .ensures k (omega arith)))))))),
+      ),
+    ),
+  ),
+)
 
 pub returns : need.returns
 returns g c =
@@ -42,20 +30,10 @@ returns g c =
     let R = g .F·Field .ring in
     let word = c .args .word .now in
     let xs = c .args .points .now in
-    let s = c .compute .last .s in
     let n = length word in
     let reach = c .args .reach in
-    let row = c .locate-locator .result in
-    let is = c .locate-locator .ensures in
-    let m = c .find-m .result in
-    let places = c .find-m .last .found in
-    let located = c .gather .last .located in
-    let out = c .subtract .last .word in
+    let out = c .propose-in .last .out in
     let b = c .is-codeword .result in
-    let apart : Apart n (λ i. getD xs i (G .zero)) = λ i j a b e. c .pre .points .1 i j (omega arith) (omega arith) e in
-    let found = subst (λ k. Found G R (row .coefficients) (reach + 1) xs k places m) (c .pre .points .0) (c .find-m .ensures) in
     let size : length out ≡ n = omega arith in
-    decoded G R (g .F·Field·met .field) xs (row .coefficients) places n reach m (row .degree) apart (is .monic) (is .small) found word s
-    (λ k l. c .compute .ensures k (omega arith)) (is .annihilates) located out (c .gather .ensures)
-    (subst (λ (w : List (g .F .Denot)). Subtracted G R w places located s m m out) (c .copy-from-slice .ensures .after) (c .subtract .ensures))
-    b (subst (λ k. When b (Codeword G R xs k (2 * reach) out) (Codeword G R xs k (2 * reach) out → ⊥)) size (c .is-codeword .ensures))
+    decoded G R (g .F·Field·met .field) xs n reach word out b (c .if-not-propose-in .ensures tt)
+    (subst (λ k. When b (Codeword G R xs k (2 * reach) out) (Codeword G R xs k (2 * reach) out → ⊥)) size (c .is-codeword .ensures))

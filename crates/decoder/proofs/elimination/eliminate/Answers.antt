@@ -39,7 +39,10 @@ reduce-requires g c κs =
               pivot,
               (
                 lower,
-                λ e. c .first-open-p .ensures .here (omega arith) (ap (λ (z : Row (g .F .Denot)). applied G R (z .coefficients) s k n) (sym eP) ∙ e),
+                (
+                  λ e. c .first-open-p .ensures .here (omega arith) (ap (λ (z : Row (g .F .Denot)). applied G R (z .coefficients) s k n) (sym eP) ∙ e),
+                  c .inv-over .ensures ∙ ap (R .over) (c .apply .ensures),
+                ),
               ),
             ),
           ),

@@ -1,6 +1,7 @@
 -- The reduced row is monic of the same degree, and annihilates one place more.
-use mathlib.Core.Path.{refl, sym, _∙_}
+use mathlib.Core.Path.{refl}
 use native.Mathlib.Omega.{arith}
+use Rattle.decoder.specs.Words.{applied}
 use Rattle.decoder.proofs.Rows.{reduced-monic, reduced-annihilates}
 use Rattle.decoder.proofs.elimination.reduce.Needs as need
 
@@ -14,9 +15,10 @@ returns g c =
     let q = c .neg-q .result in
     let w = c .add-times-coefficients .result in
     let added = c .add-times-coefficients .ensures .added in
-    let b = c .apply-b .result in
-    let i = c .inv .result in
-    let unit = laws .inverse b (λ e. c .pre .remains (sym (c .apply-b .ensures) ∙ e)) in
+    let b = applied G R (pivot .coefficients) (c .args .s .now) (c .args .k) (c .args .n) in
+    let i = c .args .over in
+    let over = c .pre .inverse in
+    let unit = laws .inverse b (c .pre .remains) in
     record {
       degree = refl;
       candidate = record {

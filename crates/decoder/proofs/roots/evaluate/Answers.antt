@@ -1,18 +1,20 @@
 -- One coefficient more.
+use Prim.Native.Nat.{_-_}
 use native.Mathlib.Omega.{arith}
+use lib.ListN.{length}
 use Rattle.std.proofs.shelf.Lists.{getD-read}
-use Rattle.decoder.proofs.Steps.{row-value-next, pow-next}
+use Rattle.decoder.specs.Words.{falling}
+use Rattle.decoder.proofs.Evaluation.{values-none, values-next}
 use Rattle.decoder.proofs.roots.evaluate.Needs as need
+
+pub loop-j-holds : need.loop-j-holds
+loop-j-holds g c =
+    values-none (g .F·Adds .group) (g .F·Field .ring) (g .F·Field·met .field) (falling (g .F·Adds .group) (c .args .v .now) (c .args .d)) (c .args .points .now) (c .clear .last .s) (length (c .args .points .now)) _ (omega arith) (c .clear .ensures)
 
 pub loop-j-again : need.loop-j-again
 loop-j-again g c =
-    let G = g .F·Adds .group in
-    let R = g .F·Field .ring in
     let v = c .args .v .now in
-    let i = c .loop-j .j in
-    let a = getD-read v i (c .index-v-j .result) (omega arith) (c .index-v-j .is) (G .zero) in
-    let n = row-value-next G R v (c .args .x) i in
-    let p = pow-next G R (c .args .x) i in
-    let i0 = c .loop-j .inv .0 in
-    let i1 = c .loop-j .inv .1 in
-    (cc, cc)
+    let d = c .args .d in
+    let j = c .loop-j .j in
+    values-next (g .F·Adds .group) (g .F·Field .ring) (g .F·Field·met .field) (falling (g .F·Adds .group) v d) (c .args .points .now) (c .loop-j .values) (c .step .last .values) (c .index-v-d .result) (length (c .args .points .now)) j
+    (c .loop-j .inv) (getD-read v (d - 1 - j) (c .index-v-d .result) (omega arith) (c .index-v-d .is) (g .F·Adds .group .zero)) (c .step .ensures)

@@ -1,9 +1,8 @@
--- The value of the coefficients passed, and the power that is next.
-use mathlib.Core.Path.{_≡_}
-use Rattle.field.specs.Sums.{pow}
-use Rattle.decoder.specs.Words.{row-value}
+-- The values of the coefficients passed.
+use lib.ListN.{length}
+use Rattle.decoder.specs.Words.{Values, falling}
 use Rattle.decoder.proofs.roots.evaluate.Given as given
 
 abbrev pub Inv-loop-j : given.InvT-loop-j
 Inv-loop-j g l =
-    (l .sum ≡ row-value (g .F·Adds .group) (g .F·Field .ring) (l .j) (l .v) (l .x)) × (l .power ≡ pow (g .F·Field .ring) (l .x) (l .j))
+    Values (g .F·Adds .group) (g .F·Field .ring) (falling (g .F·Adds .group) (l .v) (l .d)) (l .j) (l .points) (length (l .points)) (l .values)

@@ -7,6 +7,7 @@ use lib.ListN.{getD}
 use Rattle.std.proofs.shelf.Lists.{getD-read}
 use Rattle.decoder.specs.Words.{row-value}
 use Rattle.decoder.specs.Errors.{Found}
+use Rattle.decoder.proofs.Evaluation.{falling-value}
 use Rattle.decoder.proofs.Steps.{found-yes, found-no}
 use Rattle.decoder.proofs.roots.find.Needs as need
 use Rattle.decoder.proofs.roots.find.Needs.{then-is-zero, else-is-zero}
@@ -20,8 +21,9 @@ loop-i-again g c =
     let xs = c .args .points .now in
     let i = c .loop-i .i in
     let inv = c .loop-i .inv in
-    let read = getD-read xs i (c .index-points-i .result) (c .loop-i-test .taken) (c .index-points-i .is) (G .zero) in
-    let e : c .evaluate .result ≡ row-value G R d v (getD xs i (G .zero)) = cc in
+    let e : c .index-values-i .result ≡ row-value G R d v (getD xs i (G .zero)) =
+    getD-read (c .evaluate .last .values) i (c .index-values-i .result) (omega arith) (c .index-values-i .is) (G .zero)
+    ∙ c .evaluate .ensures i (c .loop-i-test .taken) ∙ falling-value G R (g .F·Field·met .field) v d (getD xs i (G .zero)) in
     elim (c .if-is-zero .came) [
       | then-is-zero w ↦
           subst₂ (λ (f : List ℕ) (n : ℕ). Found G R v d xs (i + 1) f n) (sym (w .found-is)) (sym (w .count-is))

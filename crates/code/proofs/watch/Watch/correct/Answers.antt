@@ -6,7 +6,7 @@ use Rattle.code.proofs.Answered.{untouched, none-near}
 use Rattle.code.proofs.watch.Watch.correct.Needs as need
 
 pub returns-then-has-roots : need.returns-then-has-roots
-returns-then-has-roots c = untouched _ (c .if-has-roots .ensures tt)
+returns-then-has-roots c = untouched 0 _ (c .if-has-roots .ensures tt)
 
 pub returns-else-has-roots : need.returns-else-has-roots
 returns-else-has-roots c =
