@@ -1,0 +1,12 @@
+pub mod Markers
+pub mod Letters
+pub mod Rates
+pub mod Folds
+pub mod Locks
+pub mod LockRules
+pub mod Faults
+pub mod Strips
+pub mod Packing
+pub mod Messages
+pub mod Pads
+pub mod HandCases
