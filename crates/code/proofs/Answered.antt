@@ -5,12 +5,12 @@ use Prim.Native.Nat.{ℕ, _<_, _≤_}
 use native.Mathlib.Omega.{arith}
 use lib.ListN.{length, getD}
 use lib.Seq.{ext-getD}
-use Rattle.std.specs.declared.result.Result.the-variants.{Err}
+use Rattle.std.specs.declared.result.Result.the-variants.{Ok, Err}
 use Rattle.gf1024.specs.declared.element.Element.{Element}
 use Rattle.code.specs.declared.refusal.Refusal.{Refusal}
 use Rattle.code.specs.declared.refusal.Refusal.the-variants.{Length, Symbol, Reach}
 use Rattle.code.specs.Code.{WellFormed, Codeword, distance}
-use Rattle.code.specs.Answers.{Lowest, Checked, Repaired}
+use Rattle.code.specs.Answers.{Lowest, Checked, Repaired, WatchingKeeps}
 use Rattle.code.specs.Lifting.{at, Stored, changes}
 use Rattle.code.proofs.Counting.{count-cong, count-none, none-counted}
 
@@ -37,15 +37,20 @@ untouched reach w code = record {
   within = omega arith;
 }
 
+-- words that differ in no symbol are equal
+none-apart : (w v : List ℕ) → WellFormed w → WellFormed v → distance w v ≤ 0 → v ≡ w
+unfolding distance
+none-apart w v formed other near =
+    ext-getD 0 v w (other .size ∙ sym (formed .size))
+    (λ i l. sym (none-counted 544 (λ i. getD w i 0) (λ i. getD v i 0) (omega arith) i (let s = other .size in omega arith)))
+
 -- with reach 0 no other word is near one
 pub none-near : (w : List ℕ) → WellFormed w → (Codeword w → ⊥) → (c : List ℕ) → Codeword c → distance w c ≤ 0 → ⊥
-unfolding distance
-none-near w formed other c code near = other (subst Codeword (sym same) code)
-  where
-    same : w ≡ c
-    same =
-        ext-getD 0 w c (formed .size ∙ sym (code .formed .size))
-        (λ i l. none-counted 544 (λ i. getD w i 0) (λ i. getD c i 0) (omega arith) i (let s = formed .size in omega arith))
+none-near w formed other c code near = other (subst Codeword (none-apart w c formed (code .formed) near) code)
+
+pub watching-keeps : WatchingKeeps
+watching-keeps w v (Ok n) h = none-apart w v (h .formed) (h .codeword .formed) (let d = h .changed in let l = h .within in omega arith)
+watching-keeps w v (Err e) h = h .0
 
 -- the elements of a codeword near w are stored
 pub stored : (w v : List ℕ) (es : List Element) (n : ℕ) → WellFormed w → length v ≡ 544 → Stored es (length v) v

@@ -62,6 +62,10 @@ abbrev pub AnswersAgree : Type 0
 AnswersAgree =
     (reach : ℕ) → reach ≤ 15 → (w v u : List ℕ) (r s : Result ℕ Refusal) → Corrected reach w v r → Corrected reach w u s → (v ≡ u) × (r ≡ s)
 
+-- an engine of reach 0 leaves every word as it is
+abbrev pub WatchingKeeps : Type 0
+WatchingKeeps = (w v : List ℕ) (r : Result ℕ Refusal) → Corrected 0 w v r → v ≡ w
+
 -- the one codeword that begins with the message
 pub record Encoded (message word : List ℕ) : Type 0 where
   pub codeword : Codeword word

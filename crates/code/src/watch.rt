@@ -1,4 +1,5 @@
 // The engine of reach 0: it changes no word, and tells whether one is a codeword.
+ghost use Rattle.code.specs.Answers.{WatchingKeeps};
 use super::engine::Engine;
 use super::refusal::Refusal;
 use super::symbols::check;
@@ -8,7 +9,10 @@ use super::word::has_roots;
 pub struct WatchEngine {}
 
 impl WatchEngine {
-    pub fn new() -> WatchEngine {
+    // The contract says of any engine of reach 0 that no word is changed.
+    pub fn new() -> WatchEngine
+        ensures { λ _. ⌜ WatchingKeeps ⌝ }
+    {
         WatchEngine {}
     }
 }
