@@ -1,4 +1,5 @@
 // Block records, groups of 257 bits and the scrambler.
+#![tactic(auto)]
 
 mod block;
 mod calls;

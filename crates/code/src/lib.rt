@@ -1,4 +1,6 @@
 // The code of 544 symbols over the field of 1,024 elements: encoding, and engines that correct words.
+#![tactic(auto)]
+
 mod encoder;
 mod engine;
 mod full;

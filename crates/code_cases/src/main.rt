@@ -1,6 +1,8 @@
 // Tries the code: on codewords given on standard input, and on words of its own that it damages.
 // A codeword is given in rows of 32 symbols: 80 hexadecimal digits, in each symbol the highest bit first. A row says
 // whether the print that it was taken from is whole, so that it can speak for itself, or damaged.
+#![tactic(auto)]
+
 use code::{Engine, FullEngine, WatchEngine};
 use std::io::{BufRead, BufReader};
 

@@ -1,4 +1,6 @@
 // Runs the code on examples.
+#![tactic(auto)]
+
 ghost use Rattle.std.specs.Prelude.{◌≤◌};
 
 #[cfg(test)]

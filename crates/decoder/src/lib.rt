@@ -1,4 +1,6 @@
 // Decodes words over any field, given a point for each place. All work stands in arrays of the caller.
+#![tactic(auto)]
+
 ghost use Rattle.std.specs.Prelude.{◌≡◌, ◌*◌, ◌<◌, ◌≤◌, length, slice_index_or};
 ghost use Rattle.field.specs.Places.{Apart};
 ghost use Rattle.decoder.specs.Decoding.{Proposed, Decoded};

@@ -1,4 +1,6 @@
 // What a field is: its operations, each stated by the ghost operation that it computes, and the laws of those.
+#![tactic(auto)]
+
 ghost use Rattle.std.specs.Prelude.{◌≡◌, MatchBool, ◌≢◌};
 ghost use Rattle.field.specs.Laws.{Group, AddLaws, Ring, FieldLaws};
 

@@ -1,4 +1,6 @@
 // The field of 1,024 elements: polynomials over the field of two elements modulo x^10 + x^3 + 1.
+#![tactic(auto)]
+
 ghost use Rattle.std.specs.Prelude.{◌≡◌};
 ghost use Rattle.field.specs.Sums.{pow};
 ghost use Rattle.gf1024.specs.Field.{element, ring, alpha, Laws};

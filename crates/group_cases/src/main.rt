@@ -1,5 +1,7 @@
 // Tries the library `blocks` on cases from standard input, each with the answer that an independent model gives,
 // and prints how many of each sort agree. A case is a line of words: what to try, its input, the expected answer.
+#![tactic(auto)]
+
 use anyhow::anyhow;
 use blocks::{Descrambler, Group, Reader, Record, Refusal, Scrambler};
 use std::alloc::Global;

@@ -1,4 +1,6 @@
 // Reads block records from standard input, four a group, and prints each group as a line.
+#![tactic(auto)]
+
 ghost use Rattle.std.specs.Prelude.{◌≤◌, length, IfOk};
 
 use anyhow::anyhow;

@@ -1,4 +1,6 @@
 // What C calls: the group rules, encoding and correcting, on numbers and byte slices.
+#![tactic(auto)]
+
 mod groups;
 mod symbols;
 mod words;

@@ -1,5 +1,6 @@
 // Rates and their alignment markers, the marker test, the lock machine of one position, and the steps of sending: pad bits,
 // the symbols of a message and strips.
+#![tactic(auto)]
 
 mod fault;
 mod letters;

@@ -1,5 +1,7 @@
 // Encodes a message, changes some of its symbols, corrects the word and prints what it did.
 // The argument is how many symbols are changed, 15 where there is none.
+#![tactic(auto)]
+
 use code::{Engine, FullEngine, Refusal};
 use std::env;
 

@@ -1,4 +1,5 @@
 // Sending: the blocks of a pair of codewords become the bits of its lanes.
+#![tactic(auto)]
 
 mod message;
 mod opening;
