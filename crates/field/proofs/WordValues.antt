@@ -36,7 +36,7 @@ module _ {F : Type 0} (g : Group F) (r : Ring F) (laws : FieldLaws g r) where
   pub value-joined : (p n : ℕ) (c : ℕ → F) (x : F) → word_value g r (p + n) c x ≡ word_value g r p c x ⊗ pow r x n ⊕ word_value g r n (λ j. c (p + j)) x
   unfolding word_value
   value-joined p zero c x =
-      ap (λ m. word_value g r m c x) (add-zero p) ∙ sym (ap (λ z. z ⊕ 𝟎) (one_right g r laws (word_value g r p c x)) ∙ algebra.add-zero g r laws (word_value g r p c x))
+      ap (λ m. word_value g r m c x) (add-zero p) ∙ sym (ap (λ z. z ⊕ 𝟎) (one_right g r laws (word_value g r p c x)) ∙ algebra.add_zero g r laws (word_value g r p c x))
   value-joined p (suc n) c x =
       ap (λ m. word_value g r m c x) (add-suc p n) ∙ sym (value_next (p + n) c x) ∙ ap (λ z. z ⊗ x ⊕ c (p + n)) (value-joined p n c x)
       ∙ ap (λ z. z ⊕ c (p + n)) (spread_right g r laws (front ⊗ pow r x n) rest x ∙ ap (λ z. z ⊕ rest ⊗ x) (laws.assoc front (pow r x n) x ∙ ap (λ z. front ⊗ z) (laws.comm (pow r x n) x)))
@@ -74,7 +74,7 @@ module _ {F : Type 0} (g : Group F) (r : Ring F) (laws : FieldLaws g r) where
       add_left_cancel g r laws (c 0 ⊗ pow r x n) (word_value g r n d x) (v ⊗ x ⊕ m ⊗ pow r x n)
       (ap (λ z. c 0 ⊗ pow r x n ⊕ z) (value_same g r n d (λ j. c (suc j) ⊕ (m ⊕ c 0) ⊗ q j) x step ∙ value-sum n (λ j. c (suc j)) q (m ⊕ c 0) x ∙ ap (λ z. rest ⊕ (m ⊕ c 0) ⊗ z) taps)
       ∙ sym (adds.assoc (c 0 ⊗ pow r x n) rest ((m ⊕ c 0) ⊗ pow r x n))
-      ∙ ap₂ (λ a b. a ⊕ b) (sym (value_first n c x) ∙ sym (value_next n c x) ∙ ap (λ z. v ⊗ x ⊕ z) last ∙ algebra.add-zero g r laws (v ⊗ x)) (spread_right g r laws m (c 0) (pow r x n))
+      ∙ ap₂ (λ a b. a ⊕ b) (sym (value_first n c x) ∙ sym (value_next n c x) ∙ ap (λ z. v ⊗ x ⊕ z) last ∙ algebra.add_zero g r laws (v ⊗ x)) (spread_right g r laws m (c 0) (pow r x n))
       ∙ sym (adds.assoc (v ⊗ x) (m ⊗ pow r x n) (c 0 ⊗ pow r x n)) ∙ adds.comm (v ⊗ x ⊕ m ⊗ pow r x n) (c 0 ⊗ pow r x n))
     where
       v : F
