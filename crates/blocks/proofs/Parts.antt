@@ -1,8 +1,8 @@
 -- The parts of a group around the digit that is left out.
-use Rattle.std.proofs.Common.{◌≡◌, ℕ, zero, suc, ◌+◌, ◌-◌, ◌*◌, ◌/◌, ◌%◌, ◌^◌, ◌<◌, List, [], ◌∷◌, ◌++◌, length, get_or, take, drop, sym, refl, ap, ◌∙◌, ap₂, append_assoc, zero-add, arith, length-append}
+use Rattle.std.proofs.Common.{◌≡◌, ℕ, zero, suc, ◌+◌, ◌*◌, ◌/◌, ◌%◌, ◌^◌, ◌<◌, List, [], ◌∷◌, ◌++◌, length, get_or, take, drop, sym, refl, ap, ◌∙◌, ap₂, append_assoc, zero-add, arith, length-append}
 use Rattle.std.proofs.lemmas.Nat.{shr_split}
 use Rattle.std.proofs.lemmas.List.{take_at, drop_at, drop-drop}
-use Rattle.blocks.specs.Bits.{bit, field, number}
+use Rattle.blocks.specs.Bits.{field, number}
 use Rattle.blocks.specs.Groups.{without, with_digit_at, words}
 use Rattle.blocks.proofs.Fields.{length-field, field-append, field_shift, field_low, field_join, number-field}
 

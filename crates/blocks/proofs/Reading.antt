@@ -1,5 +1,5 @@
 -- The three cases of reading a group back.
-use Rattle.std.proofs.Common.{◌≡◌, ℕ, ◌+◌, ◌*◌, true, false, List, [], ◌∷◌, ◌++◌, take, drop, refl}
+use Rattle.std.proofs.Common.{◌≡◌, ℕ, ◌*◌, true, false, List, [], ◌∷◌, ◌++◌, take, drop, refl}
 use Rattle.blocks.specs.Bits.{field, number}
 use Rattle.blocks.specs.Groups.{blocks_of, read_back, flags_back, control_back, some_zero, first_zero_place, high_digit, with_digit_at}
 use Rattle.blocks.specs.declared.block.Header.TheVariants.{Zeros, Data, Ones}

@@ -4,7 +4,7 @@ use Rattle.std.proofs.lemmas.Nat.{field_of}
 use Rattle.std.proofs.lemmas.List.{take_at, drop_at, length-set}
 use Rattle.std.proofs.lemmas.Bool.{cases_Bool, cases_lt, eqb-true}
 use Rattle.blocks.specs.Bits.{field, number}
-use Rattle.blocks.specs.Blocks.{second_bit, good, payload_bits}
+use Rattle.blocks.specs.Blocks.{second_bit, payload_bits}
 use Rattle.blocks.specs.Groups.{headers, payloads, all_good, some_control, first_control_place, without, with_digit_at, group_bits, types, fitting, high_digit, flagged, some_zero, first_zero_place, blocks_of, control_back, flags_back, read_back}
 use Rattle.blocks.specs.Sound.{is_type, payload_at, sound, retyped, put_digit, with_headers, control_comes, comes_back, Payloads, GroupsReturn}
 use Rattle.blocks.specs.declared.block.Header.{Header}

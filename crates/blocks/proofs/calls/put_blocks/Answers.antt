@@ -7,5 +7,5 @@ use Rattle.blocks.proofs.calls.put_blocks.Goals as goal
 pub returns : goal.returns
 returns c =
     let n : length c.args.blocks ≡ 4 = search rules in
-    four_records _ _ _ _ c.args.out.now _ _ _ _ c.requires c.put-block.ensures c.put-block-2.ensures c.put-block-3.ensures c.put-block-4.ensures
+    four_records _ _ _ _ c.args.out.now _ _ _ _ c.requires c.put_block.ensures c.put_block-2.ensures c.put_block-3.ensures c.put_block-4.ensures
     ∙ ap records_of (sym (four c.args.blocks _ n))

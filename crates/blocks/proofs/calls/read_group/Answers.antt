@@ -18,4 +18,4 @@ returns c =
     let n : length g ≡ 33 = search rules in
     let m : length out ≡ 36 = search rules in
     let o = read_right g out n m in
-    record { answer = ap (answered tt) (sym o); records = c.put-blocks.ensures ∙ ap records_of (c.blocks-2.ensures ∙ ap read_back c.group-in.ensures) ∙ reads g out o; law = groups_return }
+    record { answer = ap (answered tt) (sym o); records = c.put_blocks.ensures ∙ ap records_of (c.blocks-2.ensures ∙ ap read_back c.group_in.ensures) ∙ reads g out o; law = groups_return }

@@ -47,6 +47,6 @@ pub returns-in-15 : goal.returns-in-15
 unfolding high_digit types
 returns-in-15 c = record { value = sym (ap high_digit c.in-15.is); bound = lit< tt }
 
-pub returns-in-default : goal.returns-in-default
+pub returns-in_default : goal.returns-in_default
 unfolding high_digit types
-returns-in-default c = record { value = grind (arith, nat_tests); bound = tt }
+returns-in_default c = record { value = grind (arith, nat_tests); bound = tt }

@@ -3,4 +3,4 @@ use Rattle.blocks.proofs.Parts.{digit_at}
 use Rattle.blocks.proofs.group.low_digit.Goals as goal
 
 pub returns : goal.returns
-returns c = ap (λ (x : ℕ). x / 16 % 16) c.payload-at.ensures ∙ digit_at c.args.at c.args.a c.args.b c.args.c c.args.d c.requires
+returns c = ap (λ (x : ℕ). x / 16 % 16) c.payload_at.ensures ∙ digit_at c.args.at c.args.a c.args.b c.args.c c.args.d c.requires

@@ -18,7 +18,7 @@ returns-in-2 c =
     let e : 64 * c.args.at + 4 ≡ 132 = omega arith in
     rw e (puts_before c.args.digit c.args.a c.args.b c.uncarried-in-2.result 68 (words (c.args.c ∷ c.args.d ∷ [])) _ c.uncarried-in-2.ensures (puts_before c.args.digit c.args.b c.args.c c.uncarried-in-2-2.result 4 (words (c.args.d ∷ [])) _ c.uncarried-in-2-2.ensures (puts_back c.args.digit c.args.c c.restored-in-2.result (words (c.args.d ∷ [])) c.restored-in-2.ensures)))
 
-pub returns-in-default : goal.returns-in-default
-returns-in-default c =
+pub returns-in_default : goal.returns-in_default
+returns-in_default c =
     let e : 64 * c.args.at + 4 ≡ 196 = omega arith in
-    rw e (puts_before c.args.digit c.args.a c.args.b c.uncarried-in-default.result 132 (words (c.args.c ∷ c.args.d ∷ [])) _ c.uncarried-in-default.ensures (puts_before c.args.digit c.args.b c.args.c c.uncarried-in-default-2.result 68 (words (c.args.d ∷ [])) _ c.uncarried-in-default-2.ensures (puts_before c.args.digit c.args.c c.args.d c.uncarried-in-default-3.result 4 (words ([])) _ c.uncarried-in-default-3.ensures (puts_back c.args.digit c.args.d c.restored-in-default.result (words ([])) c.restored-in-default.ensures))))
+    rw e (puts_before c.args.digit c.args.a c.args.b c.uncarried-in_default.result 132 (words (c.args.c ∷ c.args.d ∷ [])) _ c.uncarried-in_default.ensures (puts_before c.args.digit c.args.b c.args.c c.uncarried-in_default-2.result 68 (words (c.args.d ∷ [])) _ c.uncarried-in_default-2.ensures (puts_before c.args.digit c.args.c c.args.d c.uncarried-in_default-3.result 4 (words ([])) _ c.uncarried-in_default-3.ensures (puts_back c.args.digit c.args.d c.restored-in_default.result (words ([])) c.restored-in_default.ensures))))

@@ -18,7 +18,7 @@ returns-in-2 c =
     let e : 64 * c.args.at + 4 ≡ 132 = omega arith in
     rw e (carries c.args.flags c.args.a c.carried-in-2.result 68 (words (c.args.b ∷ c.args.c ∷ c.args.d ∷ [])) _ c.carried-in-2.ensures (carries (c.args.a / 2 ^ 60) c.args.b c.carried-in-2-2.result 4 (words (c.args.c ∷ c.args.d ∷ [])) _ c.carried-in-2-2.ensures (leaves_out (c.args.b / 2 ^ 60) c.args.c c.shortened-in-2.result (words (c.args.d ∷ [])) c.shortened-in-2.ensures)))
 
-pub returns-in-default : goal.returns-in-default
-returns-in-default c =
+pub returns-in_default : goal.returns-in_default
+returns-in_default c =
     let e : 64 * c.args.at + 4 ≡ 196 = omega arith in
-    rw e (carries c.args.flags c.args.a c.carried-in-default.result 132 (words (c.args.b ∷ c.args.c ∷ c.args.d ∷ [])) _ c.carried-in-default.ensures (carries (c.args.a / 2 ^ 60) c.args.b c.carried-in-default-2.result 68 (words (c.args.c ∷ c.args.d ∷ [])) _ c.carried-in-default-2.ensures (carries (c.args.b / 2 ^ 60) c.args.c c.carried-in-default-3.result 4 (words (c.args.d ∷ [])) _ c.carried-in-default-3.ensures (leaves_out (c.args.c / 2 ^ 60) c.args.d c.shortened-in-default.result (words ([])) c.shortened-in-default.ensures))))
+    rw e (carries c.args.flags c.args.a c.carried-in_default.result 132 (words (c.args.b ∷ c.args.c ∷ c.args.d ∷ [])) _ c.carried-in_default.ensures (carries (c.args.a / 2 ^ 60) c.args.b c.carried-in_default-2.result 68 (words (c.args.c ∷ c.args.d ∷ [])) _ c.carried-in_default-2.ensures (carries (c.args.b / 2 ^ 60) c.args.c c.carried-in_default-3.result 4 (words (c.args.d ∷ [])) _ c.carried-in_default-3.ensures (leaves_out (c.args.c / 2 ^ 60) c.args.d c.shortened-in_default.result (words ([])) c.shortened-in_default.ensures))))

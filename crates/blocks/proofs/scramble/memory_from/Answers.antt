@@ -4,5 +4,5 @@ use Rattle.blocks.proofs.scramble.memory_from.Goals as goal
 
 pub returns : goal.returns
 returns c =
-    let h : c.reverse-bits.result < 2 ^ 64 = c.reverse-bits.type-inv in
-    record { value = started c.args.start c.reverse-bits.result c.reverse-bits.ensures; bound = omega arith }
+    let h : c.reverse_bits.result < 2 ^ 64 = c.reverse_bits.type_inv in
+    record { value = started c.args.start c.reverse_bits.result c.reverse_bits.ensures; bound = omega arith }

@@ -12,6 +12,6 @@ returns c =
     let p = descrambled_one m c.args.self.now.small (one_if c.args.y) d (one_if-small c.args.y)
     (ap₂ (λ (u v : ℕ). bit_xor u v % 2) c.from-received.ensures c.tail.ensures) in
     record {
-      back = ap (λ (b : ℕ). b ∷ []) c.is-odd.ensures ∙ p.0;
+      back = ap (λ (b : ℕ). b ∷ []) c.is_odd.ensures ∙ p.0;
       after = ap (λ (b : ℕ). memory_in (m / 2 + b * 2 ^ 57 % 2 ^ 64)) c.from-received.ensures ∙ p.1;
     }

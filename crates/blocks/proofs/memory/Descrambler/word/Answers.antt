@@ -1,6 +1,5 @@
 use Rattle.std.proofs.Common.{ℕ, ap₂}
 use lib.Bits.{bit_xor}
-use Rattle.blocks.specs.Taps.{taps}
 use Rattle.blocks.proofs.Words.{descrambled-word}
 use Rattle.blocks.proofs.memory.Descrambler.word.Goals as goal
 

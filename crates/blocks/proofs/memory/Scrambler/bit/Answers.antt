@@ -10,4 +10,4 @@ returns c =
     let p = scrambled_one c.args.self.now.memory c.args.self.now.small (one_if c.args.x) y (one_if-small c.args.x)
     (ap₂ (λ (u v : ℕ). bit_xor u v % 2) c.from.ensures c.tail.ensures) in
     let z : y % 2 ≡ y = omega arith in
-    record { out = ap (λ (b : ℕ). b ∷ []) (c.is-odd.ensures ∙ z) ∙ p.0; after = p.1 }
+    record { out = ap (λ (b : ℕ). b ∷ []) (c.is_odd.ensures ∙ z) ∙ p.0; after = p.1 }

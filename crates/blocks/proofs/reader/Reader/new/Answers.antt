@@ -3,9 +3,9 @@ use Rattle.blocks.specs.Records.{rest_at}
 use Rattle.blocks.proofs.Walking.{visits}
 use Rattle.blocks.proofs.reader.Reader.new.Goals as goal
 
-pub invariant-of-result : goal.invariant-of-result
+pub invariant_of-result : goal.invariant_of-result
 unfolding rest_at
-invariant-of-result c = (omega arith, (omega arith, (refl, tt)))
+invariant_of-result c = record { inside = omega arith; counted = omega arith; placed = refl }
 
 pub returns : goal.returns
 returns c = record { source = refl; index = refl; visits = visits }
