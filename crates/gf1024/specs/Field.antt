@@ -1,5 +1,5 @@
 -- The field of 1,024 elements: its operations on numbers and on elements, its root alpha, and its laws.
-use Rattle.std.specs.Prelude.{◌≡◌, ℕ, ◌%◌, ◌<◌, bit-bit_xor}
+use Rattle.std.specs.Prelude.{◌≡◌, ℕ, ◌%◌, ◌<◌, bit_xor}
 use Rattle.std.proofs.lemmas.Nat.{xor_lt}
 use Rattle.std.proofs.Common.{lit<}
 use Rattle.field.specs.Laws.{Group, Ring, FieldLaws}
@@ -12,7 +12,7 @@ use Rattle.gf1024.specs.Closed.{low_lt, times_lt, inverse_lt}
 abbrev pub sums : Group ℕ
 sums = record {
   zero = 0;
-  plus = bitXor;
+  plus = bit_xor;
   minus = λ x. x;
 }
 
@@ -27,7 +27,7 @@ products = record {
 abbrev pub group : Group Element
 group = record {
   zero = record { value = 0; small = lit< tt };
-  plus = λ x y. record { value = bit-bit_xor x.value y.value; small = xor_lt 10 x.value y.value x.small y.small };
+  plus = λ x y. record { value = bit_xor x.value y.value; small = xor_lt 10 x.value y.value x.small y.small };
   minus = λ x. x;
 }
 

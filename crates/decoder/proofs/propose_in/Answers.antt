@@ -50,7 +50,7 @@ returns g c =
     let found = subst (λ k. Found G R row.coefficients (reach + 1) xs k places m) c.requires.points.0 (found_all G R g.met.F.Field.field row.coefficients row.degree (reach + 1) xs (length xs) places m is.monic is.small c.find-m.ensures) in
     proposal G R g.met.F.Field.field xs row.coefficients places n reach m row.degree apart is.monic is.small found word s
     c.requires.syndromes is.annihilates located out c.gather.ensures
-    (subst (λ (w : List g.row.F.Denot). Subtracted G R w places located s m m out) c.copy-from-slice.ensures.after c.subtract.ensures)
+    (subst (λ (w : List g.row.F.Denot). Subtracted G R w places located s m m out) c.copy_from_slice.ensures.after c.subtract.ensures)
 
 pub find-m-requires : goal.find-m-requires
 find-m-requires g c = (let h = c.locate-locator.ensures.small in omega arith, (omega arith, omega arith))

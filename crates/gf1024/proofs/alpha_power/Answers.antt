@@ -5,8 +5,8 @@ use Rattle.gf1024.specs.Order.{shifted_mod}
 use Rattle.gf1024.specs.ElementsLemmas.{same, power_value, laws}
 use Rattle.gf1024.proofs.alpha_power.Goals as goal
 
-pub invariant-of-result : goal.invariant-of-result
-invariant-of-result c = (rw c.exp.ensures (shifted_lt (c.args.i % 1023) 1 (lit< tt)), tt)
+pub invariant_of-result : goal.invariant_of-result
+invariant_of-result c = record { small = rw c.exp.ensures (shifted_lt (c.args.i % 1023) 1 (lit< tt)) }
 
 pub returns : goal.returns
 returns c = record {

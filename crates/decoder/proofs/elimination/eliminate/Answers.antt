@@ -12,7 +12,7 @@ reduce-requires g c =
     let G = g.F.Adds.group in
     let R = g.F.Field.ring in
     let old = c.args.rows.now in
-    let p = c.first-open-p.result in
+    let p = c.first_open-p.result in
     let i = c.loop-i.i in
     let s = c.args.s.now in
     let k = c.args.k in
@@ -25,19 +25,16 @@ reduce-requires g c =
     let lower = subst₂ (λ (a b : Row g.row.F.Denot). a.degree < b.degree) (sym eP) (sym eI) (c.requires.rows.ascend p i (omega arith) (omega arith)) in (
       search rules,
       (
-        c.requires.bounds.1.1.0,
+        (c.requires.bounds.1.1.0, c.requires.bounds.1.1.1),
         (
-          c.requires.bounds.1.1.1,
+          row,
           (
-            row,
+            pivot,
             (
-              pivot,
+              lower,
               (
-                lower,
-                (
-                  λ e. c.first-open-p.ensures.here (omega arith) (ap (λ (z : Row g.row.F.Denot). applied G R z.coefficients s k n) (sym eP) ∙ e),
-                  c.inv-over.ensures ∙ ap R.over c.apply.ensures,
-                ),
+                λ e. c.first_open-p.ensures.here (omega arith) (ap (λ (z : Row g.row.F.Denot). applied G R z.coefficients s k n) (sym eP) ∙ e),
+                c.inv-over.ensures ∙ ap R.over c.apply.ensures,
               ),
             ),
           ),
@@ -68,5 +65,5 @@ loop-i-preserved g c =
 pub returns : goal.returns
 returns g c =
     let inv = c.loop-i.invariant in
-    next_stage g.F.Adds.group g.F.Field.ring c.args.rows.now c.loop-i.rows c.args.m c.first-open-p.result c.args.k c.args.n c.args.s.now
-    c.first-open-p.ensures.within c.requires.rows c.first-open-p.ensures.before inv.0 (λ t h l. inv.1 t h (omega arith)) (λ t h l. inv.2 t h (omega arith))
+    next_stage g.F.Adds.group g.F.Field.ring c.args.rows.now c.loop-i.rows c.args.m c.first_open-p.result c.args.k c.args.n c.args.s.now
+    c.first_open-p.ensures.within c.requires.rows c.first_open-p.ensures.before inv.0 (λ t h l. inv.1 t h (omega arith)) (λ t h l. inv.2 t h (omega arith))

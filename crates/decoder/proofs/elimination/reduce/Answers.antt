@@ -12,8 +12,8 @@ returns g c =
     let row = c.args.row.now in
     let pivot = c.args.pivot.now in
     let q = c.neg-q.result in
-    let w = c.add-times-coefficients.result in
-    let added = c.add-times-coefficients.ensures.added in
+    let w = c.add_times-coefficients.result in
+    let added = c.add_times-coefficients.ensures.added in
     let b = applied G R pivot.coefficients c.args.s.now c.args.k c.args.n in
     let i = c.args.over in
     let over = c.requires.inverse in
@@ -22,7 +22,7 @@ returns g c =
       degree = refl;
       candidate = record {
         small = c.requires.row.small;
-        monic = reduced_monic G R laws row.degree pivot.degree row.coefficients pivot.coefficients q w c.add-times-coefficients.ensures.size c.requires.lower (omega (arith, c.requires.row.small, c.requires.bounds.0)) c.requires.row.monic c.requires.pivot.monic added;
+        monic = reduced_monic G R laws row.degree pivot.degree row.coefficients pivot.coefficients q w c.add_times-coefficients.ensures.size c.requires.lower (omega (arith, c.requires.row.small, c.requires.bounds.0)) c.requires.row.monic c.requires.pivot.monic added;
         annihilates =
             reduced_annihilates G R laws row.coefficients pivot.coefficients q w c.args.s.now c.args.n c.args.k i c.requires.bounds.0 added c.requires.row.annihilates c.requires.pivot.annihilates
             (cc)

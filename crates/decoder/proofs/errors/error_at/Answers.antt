@@ -30,7 +30,7 @@ loop-l-preserved g c =
             omega arith,
             omega arith,
             cc,
-            λ k h. ap (λ z. get_or z k G.zero) w.t-is ∙ w.drop-term.ensures k (omega arith)
+            λ k h. ap (λ z. get_or z k G.zero) w.t-is ∙ w.drop_term.ensures k (omega arith)
                 ∙ ap₂ G.plus (inv.3 (k + 1) (omega arith)) (ap₂ (λ x y. R.times (G.minus x) y) el (inv.3 k (omega arith)))
                 ∙ sym (remaining-drop G R xs (λ i. get_or t₀ i G.zero) j l k ne),
           ))

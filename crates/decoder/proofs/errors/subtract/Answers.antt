@@ -18,11 +18,11 @@ loop-j-preserved g c =
     let m = c.args.m in
     let j = c.loop-j.j in
     let out = c.loop-j.word in
-    let y = c.error-at-y.result in
+    let y = c.error_at-y.result in
     let i = get_or found j 0 in
     let small = c.requires.within j (omega arith) in
     let same =
-    remaining-same G R laws locs (λ k. get_or c.copy-front.new.t k none) (λ k. get_or s k none) m j c.copy-front.ensures m 0 (λ z. absurd (omega arith)) (λ z. (omega arith)) in
+    remaining-same G R laws locs (λ k. get_or c.copy_front.new.t k none) (λ k. get_or s k none) m j c.copy_front.ensures m 0 (λ z. absurd (omega arith)) (λ z. (omega arith)) in
     let yis : y ≡ error_value G R locs (λ k. get_or s k none) m j = cc in
     let read = get_or_read out i c.index-word-i.result (omega arith) c.index-word-i.is none in
     subtracted_next G R c.args.word.now found locs s m j out c.add.result c.loop-j.invariant c.loop-j-test.true c.requires.ascend (omega arith) (cc)

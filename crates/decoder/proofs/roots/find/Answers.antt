@@ -6,7 +6,7 @@ use Rattle.decoder.specs.Errors.{Found}
 use Rattle.decoder.proofs.Evaluation.{falling-value}
 use Rattle.decoder.proofs.Steps.{found_yes, found_no}
 use Rattle.decoder.proofs.roots.find.Goals as goal
-use Rattle.decoder.proofs.roots.find.Goals.{then-is-zero, else-is-zero}
+use Rattle.decoder.proofs.roots.find.Goals.{then-is_zero, else-is_zero}
 
 pub loop-i-preserved : goal.loop-i-preserved
 loop-i-preserved g c =
@@ -20,11 +20,11 @@ loop-i-preserved g c =
     let e : c.index-values-i.result ≡ row_value G R d v (get_or xs i G.zero) =
     get_or_read c.evaluate.new.values i c.index-values-i.result (omega arith) c.index-values-i.is G.zero
     ∙ c.evaluate.ensures i c.loop-i-test.true ∙ falling-value G R g.met.F.Field.field v d (get_or xs i G.zero) in
-    elim c.if-is-zero.branch [
-      | then-is-zero w ↦
-          subst₂ (λ (f : List ℕ) (n : ℕ). Found G R v d xs (i + 1) f n) (sym w.found-is) (sym w.count_is)
-          (found_yes G R v d xs i c.loop-i.found c.loop-i.count inv (omega (arith, inv.small)) (sym e ∙ w.if-is-zero.ensures))
-      | else-is-zero w ↦
-          subst₂ (λ (f : List ℕ) (n : ℕ). Found G R v d xs (i + 1) f n) (sym w.found-is) (sym w.count_is)
-          (found_no G R v d xs i c.loop-i.found c.loop-i.count inv (λ q. w.if-is-zero.ensures (e ∙ q)))
+    elim c.if-is_zero.branch [
+      | then-is_zero w ↦
+          subst₂ (λ (f : List ℕ) (n : ℕ). Found G R v d xs (i + 1) f n) (sym w.found-is) (sym w.count-is)
+          (found_yes G R v d xs i c.loop-i.found c.loop-i.count inv (omega (arith, inv.small)) (sym e ∙ w.if-is_zero.ensures))
+      | else-is_zero w ↦
+          subst₂ (λ (f : List ℕ) (n : ℕ). Found G R v d xs (i + 1) f n) (sym w.found-is) (sym w.count-is)
+          (found_no G R v d xs i c.loop-i.found c.loop-i.count inv (λ q. w.if-is_zero.ensures (e ∙ q)))
     ]

@@ -13,7 +13,7 @@ loop-i-preserved g c = λ k h.
     let i = c.loop-i.i in
     let a = get_or_read w i c.index-word-i.result (omega arith) c.index-word-i.is G.zero in
     let x = get_or_read xs i c.index-points-i.result (omega arith) c.index-points-i.is G.zero in
-    let added = c.add-term.ensures k (omega arith) in
+    let added = c.add_term.ensures k (omega arith) in
     let before = c.loop-i.invariant k h in
     let next = syndrome_next G R w xs k i in
     cc

@@ -4,8 +4,8 @@ use lib.Bits.{xor_lt}
 use Rattle.gf1024.specs.ElementsLemmas.{same}
 use Rattle.gf1024.proofs.operations.ElementAdds.add.Goals as goal
 
-pub invariant-of-result : goal.invariant-of-result
-invariant-of-result c = (xor_lt 10 _ _ c.args.self.small c.args.other.small, tt)
+pub invariant_of-result : goal.invariant_of-result
+invariant_of-result c = record { small = xor_lt 10 _ _ c.args.self.small c.args.other.small }
 
 pub returns : goal.returns
 returns c = same _ _ refl

@@ -3,8 +3,8 @@ use Rattle.gf1024.specs.Closed.{times_lt}
 use Rattle.gf1024.specs.ElementsLemmas.{same}
 use Rattle.gf1024.proofs.operations.ElementField.mul.Goals as goal
 
-pub invariant-of-result : goal.invariant-of-result
-invariant-of-result c = (rw c.mul.ensures (times_lt _ _ c.args.self.small), tt)
+pub invariant_of-result : goal.invariant_of-result
+invariant_of-result c = record { small = rw c.mul.ensures (times_lt _ _ c.args.self.small) }
 
 pub returns : goal.returns
 returns c = same _ _ c.mul.ensures
