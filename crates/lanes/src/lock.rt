@@ -46,7 +46,7 @@ enum Outcome {
 const MOST_FAILURES: u8 = 4;
 
 fn passing_lane<R: Rate>(window: Option<u128>) -> Option<usize>
-    ensures { result ≡ lowest (tested lanes octet window) lanes }
+    ensures { result ≡ lowest (tested R.lanes R.octet window) R.lanes }
 {
     match window {
         Some(bits) => found_lane::<R>(bits),
@@ -55,7 +55,7 @@ fn passing_lane<R: Rate>(window: Option<u128>) -> Option<usize>
 }
 
 fn passes_for<R: Rate>(window: Option<u128>, lane: usize) -> bool
-    ensures { result ≡ tested lanes octet window lane }
+    ensures { result ≡ tested R.lanes R.octet window lane }
 {
     match window {
         Some(bits) => passes::<R>(bits, lane),
@@ -64,7 +64,7 @@ fn passes_for<R: Rate>(window: Option<u128>, lane: usize) -> bool
 }
 
 fn test_when_due<R: Rate>(window: Option<u128>, lane: usize, left: usize) -> Outcome
-    ensures { result ≡ due (tested lanes octet window) lane left }
+    ensures { result ≡ due (tested R.lanes R.octet window) lane left }
 {
     if left > 1 {
         Outcome::Untested
@@ -76,7 +76,7 @@ fn test_when_due<R: Rate>(window: Option<u128>, lane: usize, left: usize) -> Out
 }
 
 fn test<R: Rate>(lock: Lock, window: Option<u128>) -> Outcome
-    ensures { result ≡ outcome lanes (tested lanes octet window) lock }
+    ensures { result ≡ outcome R.lanes (tested R.lanes R.octet window) lock }
 {
     match lock {
         Lock::Searching => match passing_lane::<R>(window) {
@@ -142,9 +142,9 @@ fn turn(lock: &mut Lock, outcome: Outcome, period: usize) -> Event
 
 // One tick of a position. There is no window before 120 bits of the hunt are in.
 pub fn step<R: Rate>(lock: &mut Lock, window: Option<u128>) -> Event
-    ensures state { lock.new ≡ next_lock lanes (marker_period lanes pairs) (tested lanes octet window) lock.old }
-    ensures event { result ≡ lock_event lanes (tested lanes octet window) lock.old }
-    ensures rules { LockRules lanes (marker_period lanes pairs) }
+    ensures state { lock.new ≡ next_lock R.lanes (marker_period R.lanes R.pairs) (tested R.lanes R.octet window) lock.old }
+    ensures event { result ≡ lock_event R.lanes (tested R.lanes R.octet window) lock.old }
+    ensures rules { LockRules R.lanes (marker_period R.lanes R.pairs) }
 {
     let outcome = test::<R>(*lock, window);
     turn(lock, outcome, period::<R>())

@@ -50,7 +50,7 @@ const MARKER_ROWS: usize = 12;
 
 // Symbol `row` of a lane's marker: ten bits, the first lowest. It is 0 past the marker, and past the lanes.
 pub fn marker_symbol<R: Rate>(lane: usize, row: usize) -> u16
-    ensures { result ≡ symbol_in (marker_bits lanes octet lane) row }
+    ensures { result ≡ symbol_in (marker_bits R.lanes R.octet lane) row }
 {
     if row >= MARKER_ROWS {
         return 0;
@@ -67,15 +67,15 @@ fn is_near_shared(window: u128) -> bool
 
 // The window is near to what tells a lane.
 fn is_near_own<R: Rate>(window: u128, lane: usize) -> bool
-    requires { lane < lanes }
-    ensures { result ≡ near window (octet lane) own }
+    requires { lane < R.lanes }
+    ensures { result ≡ near window (R.octet lane) own }
 {
     own_wrong(window, number(R::marker(lane))) <= MOST_WRONG
 }
 
 // The window passes for a lane; for none past the lanes.
 pub fn passes<R: Rate>(window: u128, lane: usize) -> bool
-    ensures { result ≡ passes lanes octet window lane }
+    ensures { result ≡ passes R.lanes R.octet window lane }
 {
     if lane >= R::lane_count() {
         return false;
@@ -84,7 +84,7 @@ pub fn passes<R: Rate>(window: u128, lane: usize) -> bool
 }
 
 fn lowest_lane<R: Rate>(window: u128) -> Option<usize>
-    ensures { result ≡ found lanes octet window }
+    ensures { result ≡ found R.lanes R.octet window }
 {
     if !is_near_shared(window) {
         return None;
@@ -99,9 +99,9 @@ fn lowest_lane<R: Rate>(window: u128) -> Option<usize>
 
 // The lane for which the window passes. It passes for at most one.
 pub fn found_lane<R: Rate>(window: u128) -> Option<usize>
-    ensures lane { result ≡ found lanes octet window }
-    ensures only { Only lanes octet window result }
-    ensures sent { FindsSent lanes octet window result }
+    ensures lane { result ≡ found R.lanes R.octet window }
+    ensures only { Only R.lanes R.octet window result }
+    ensures sent { FindsSent R.lanes R.octet window result }
 {
     lowest_lane::<R>(window)
 }

@@ -38,7 +38,7 @@ const PAIR_BITS: usize = 10880;
 
 // The ticks from one marker of a lane to the next.
 pub fn period<R: Rate>() -> usize
-    ensures { result ≡ marker_period lanes pairs }
+    ensures { result ≡ marker_period R.lanes R.pairs }
 {
     R::pair_count() * (PAIR_BITS / R::lane_count())
 }

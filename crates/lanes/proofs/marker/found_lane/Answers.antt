@@ -4,7 +4,7 @@ use Rattle.lanes.proofs.marker.found_lane.Goals as goal
 
 pub returns : goal.returns
 returns g c = record {
-  lane = c.lowest-lane.ensures;
-  only = λ l e. c.lowest-lane.ensures ∙ the_lane g.met.R.Rate.lawful c.args.window l e;
-  sent = λ l h e. c.lowest-lane.ensures ∙ sent_lane g.met.R.Rate.lawful c.args.window l h e;
+  lane = c.lowest_lane.ensures;
+  only = λ l e. c.lowest_lane.ensures ∙ the_lane g.met.R.Rate.lawful c.args.window l e;
+  sent = λ l h e. c.lowest_lane.ensures ∙ sent_lane g.met.R.Rate.lawful c.args.window l h e;
 }

@@ -5,4 +5,4 @@ use Rattle.lanes.proofs.marker.is_near_shared.Goals as goal
 
 pub returns : goal.returns
 unfolding near
-returns c = ap (λ (n : ℕ). leb n 3) (c.shared-wrong.ensures ∙ shared_by_number c.args.window)
+returns c = ap (λ (n : ℕ). leb n 3) (c.shared_wrong.ensures ∙ shared_by_number c.args.window)

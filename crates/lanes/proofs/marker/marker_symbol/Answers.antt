@@ -4,8 +4,8 @@ use Rattle.lanes.specs.Markers.{symbol_in, marker_bits, octets_number}
 use Rattle.lanes.proofs.MarkerSymbols.{marker_field, length_bits, symbol_of_field, symbol_past}
 use Rattle.lanes.proofs.marker.marker_symbol.Goals as goal
 
-pub returns-then-row-ge-MARKER-ROWS : goal.returns-then-row-ge-MARKER-ROWS
-returns-then-row-ge-MARKER-ROWS g c =
+pub returns-then-row-ge-MARKER_ROWS : goal.returns-then-row-ge-MARKER_ROWS
+returns-then-row-ge-MARKER_ROWS g c =
     let n = length_bits g.R.Rate.lanes g.R.Rate.octet g.met.R.Rate.lawful.form c.args.lane in
     sym (symbol_past _ _ (omega arith))
 

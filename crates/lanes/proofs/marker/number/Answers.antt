@@ -4,4 +4,4 @@ use Rattle.lanes.proofs.marker.number.Goals as goal
 
 pub returns : goal.returns
 unfolding octets_number
-returns c = omega (arith, c.from-le-bytes.ensures)
+returns c = omega (arith, c.from_le_bytes.ensures)
