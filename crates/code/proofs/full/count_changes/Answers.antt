@@ -24,6 +24,6 @@ loop-i-preserved c =
     let read = ap (λ (x : Element). x.value) (get_or_default es i c.index-elements-i.result group.zero (omega arith)) in
     let next = ap (λ n. changes n w es) (add-one i) in
     elim c.if-word-i.branch [
-      | then-word-i x ↦ (let more = count_other i u v (λ e. x.if-word-i.true (e ∙ sym read)) in (omega (arith, x.count_is), omega (arith, x.count_is)))
-      | else-word-i x ↦ (let more = count_same i u v (x.if-word-i.false ∙ read) in (omega (arith, x.count_is), omega (arith, x.count_is)))
+      | then-word-i x ↦ (let more = count_other i u v (λ e. x.if-word-i.true (e ∙ sym read)) in (omega (arith, x.count-is), omega (arith, x.count-is)))
+      | else-word-i x ↦ (let more = count_same i u v (x.if-word-i.false ∙ read) in (omega (arith, x.count-is), omega (arith, x.count-is)))
     ]

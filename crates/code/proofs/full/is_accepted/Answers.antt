@@ -3,8 +3,8 @@ use Rattle.std.proofs.Common.{arith}
 use Rattle.code.proofs.Decoded.{stored_formed, accepted}
 use Rattle.code.proofs.full.is_accepted.Goals as goal
 
-pub has-roots-requires : goal.has-roots-requires
-has-roots-requires c = stored_formed c.args.elements.now c.store.new.word (omega arith) c.store.ensures
+pub has_roots-requires : goal.has_roots-requires
+has_roots-requires c = stored_formed c.args.elements.now c.store.new.word (omega arith) c.store.ensures
 
 pub returns : goal.returns
-returns c = accepted c.args.elements.now c.store.new.word (omega arith) c.store.ensures c.has-roots.result c.has-roots.ensures
+returns c = accepted c.args.elements.now c.store.new.word (omega arith) c.store.ensures c.has_roots.result c.has_roots.ensures

@@ -9,7 +9,7 @@ propose-requires c =
     let xs = c.args.places.now.points in
     let apart = points_distinct xs (omega arith) c.args.places.now.filled in
     let syndromes = syndromes_are c.args.word.now es xs c.requires.formed (omega arith) c.load.ensures c.args.places.now.filled c.args.syndromes.now c.requires.syndromes.0 in
-    (lit< tt, (omega arith, (apart, (lit< tt, (omega arith, (omega arith, (omega arith, syndromes)))))))
+    (lit< tt, ((omega arith, apart), ((lit< tt, (omega arith, (omega arith, omega arith))), syndromes)))
 
 pub returns : goal.returns
 returns c =

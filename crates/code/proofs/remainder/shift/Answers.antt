@@ -12,11 +12,11 @@ pub loop-q-preserved : goal.loop-q-preserved
 loop-q-preserved c =
     let old = c.args.register.now in
     let now = c.loop-q.register in
-    let new = c.shift-eight.new.register in
+    let new = c.shift_eight.new.register in
     let f : ℕ = bit_xor c.args.next (get_or old 0 0) in
     let b : ℕ = 8 * c.loop-q.q in
     subst (λ n. Shifted old f 0 n new) (let e : b + 8 ≡ 8 * (c.loop-q.q + 1) = omega arith in e)
-    (both-shifted old now new f b (b + 8) (omega arith) c.loop-q.invariant c.shift-eight.ensures)
+    (both-shifted old now new f b (b + 8) (omega arith) c.loop-q.invariant c.shift_eight.ensures)
 
 pub returns : goal.returns
 returns c =
@@ -24,8 +24,8 @@ returns c =
     let f : ℕ = bit_xor c.args.next (get_or old 0 0) in
     subst (λ n. Shifted old f 0 n c.loop-q.register) (let e : 8 * c.loop-q.q ≡ 32 = omega arith in e) c.loop-q.invariant
 
-pub shift-eight-requires : goal.shift-eight-requires
-shift-eight-requires c =
+pub shift_eight-requires : goal.shift_eight-requires
+shift_eight-requires c =
     let r = c.requires.0 in
     let s = r.size in
     (omega arith, (xor_lt 10 c.args.next (get_or c.args.register.now 0 0) c.requires.1 (r.small 0), omega arith))

@@ -6,4 +6,4 @@ pub loop-k-preserved : goal.loop-k-preserved
 loop-k-preserved c =
     below_more _ _
     (λ k h. let ne : k ≢ c.loop-k.k = omega arith in rw get_or-set_other (c.loop-k.invariant k h))
-    (let lt : c.loop-k.k < length c.loop-k.elements = omega arith in rw get_or-set_same c.alpha-power.ensures.value)
+    (let lt : c.loop-k.k < length c.loop-k.elements = omega arith in rw get_or-set_same c.alpha_power.ensures.value)

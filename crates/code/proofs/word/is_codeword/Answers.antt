@@ -5,7 +5,7 @@ use Rattle.code.proofs.Far.{far_apart}
 use Rattle.code.proofs.word.is_codeword.Goals as goal
 
 pub returns-in-Ok : goal.returns-in-Ok
-returns-in-Ok c = record { value = c.has-roots.ensures; law = far_apart; each = each_encodes }
+returns-in-Ok c = record { value = c.has_roots.ensures; law = far_apart; each = each_encodes }
 
 pub returns-in-Err : goal.returns-in-Err
 returns-in-Err c = record { value = λ code. checked_out _ _ c.in-Err.ensures code.formed; law = far_apart; each = each_encodes }
