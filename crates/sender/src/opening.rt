@@ -32,8 +32,8 @@ fn exchanged(row: usize, lane: usize) -> usize
 
 // Puts the marker symbols of all rows.
 fn put_markers<R: Rate>(bits: &mut [u8])
-    requires { 120 * lanes ≤ length bits.old }
-    ensures { bits.new ≡ symbol_bits (12 * lanes) (marker_block_symbol lanes octet) ++ drop (120 * lanes) bits.old }
+    requires { 120 * R.lanes ≤ length bits.old }
+    ensures { bits.new ≡ symbol_bits (12 * R.lanes) (marker_block_symbol R.lanes R.octet) ++ drop (120 * R.lanes) bits.old }
 {
     let lanes = R::lane_count();
     for m in 0..ROWS * lanes {
@@ -56,16 +56,16 @@ fn put_pad(pad: &mut Pad, bits: &mut [u8], at: usize, n: usize)
 
 // The bits of a marker block: the room of half as many groups as there are lanes.
 fn block_size<R: Rate>() -> usize
-    ensures { result ≡ block_size lanes }
+    ensures { result ≡ block_size R.lanes }
 {
     257 * (R::lane_count() / 2)
 }
 
 // Puts the marker block in front.
 fn put_marker_block<R: Rate>(pad: &mut Pad, status: u8, bits: &mut [u8])
-    requires { (block_size lanes ≤ length bits.old) × (status < 8) }
-    ensures bits { bits.new ≡ marker_block lanes octet (table (pad_size lanes) (pad_bit (nth (pad_memory pad.old)))) status ++ drop (block_size lanes) bits.old }
-    ensures memory { pad_memory pad.new ≡ table 9 (pad_before (nth (pad_memory pad.old)) (pad_size lanes)) }
+    requires { (block_size R.lanes ≤ length bits.old) × (status < 8) }
+    ensures bits { bits.new ≡ marker_block R.lanes R.octet (table (pad_size R.lanes) (pad_bit (nth (pad_memory pad.old)))) status ++ drop (block_size R.lanes) bits.old }
+    ensures memory { pad_memory pad.new ≡ table 9 (pad_before (nth (pad_memory pad.old)) (pad_size R.lanes)) }
 {
     let markers = ROWS * SYMBOL_BITS * R::lane_count();
     let pads = block_size::<R>() - markers - STATUS_BITS;
@@ -76,10 +76,10 @@ fn put_marker_block<R: Rate>(pad: &mut Pad, status: u8, bits: &mut [u8])
 
 // Puts what opens a pair, a marker block or nothing, and answers its size.
 pub(crate) fn put_opening<R: Rate>(opens: bool, pad: &mut Pad, status: u8, bits: &mut [u8]) -> usize
-    requires { (block_size lanes ≤ length bits.old) × (status < 8) }
-    ensures size { result ≡ opening_size lanes opens }
-    ensures bits { bits.new ≡ opening lanes octet opens (table (pad_size lanes) (pad_bit (nth (pad_memory pad.old)))) status ++ drop (opening_size lanes opens) bits.old }
-    ensures memory { pad_memory pad.new ≡ pad_after lanes opens (pad_memory pad.old) }
+    requires { (block_size R.lanes ≤ length bits.old) × (status < 8) }
+    ensures size { result ≡ opening_size R.lanes opens }
+    ensures bits { bits.new ≡ opening R.lanes R.octet opens (table (pad_size R.lanes) (pad_bit (nth (pad_memory pad.old)))) status ++ drop (opening_size R.lanes opens) bits.old }
+    ensures memory { pad_memory pad.new ≡ pad_after R.lanes opens (pad_memory pad.old) }
 {
     if !opens {
         return 0;

@@ -97,7 +97,7 @@ impl<R: Rate> Sender<R> {
 
     // The groups that the next pair takes.
     fn group_count(&self) -> usize
-        ensures { result ≡ groups_of lanes (line_of self.now) }
+        ensures { result ≡ groups_of R.lanes (line_of self.now) }
     {
         if self.index == 0 {
             GROUPS - R::lane_count() / 2
@@ -108,14 +108,14 @@ impl<R: Rate> Sender<R> {
 
     // The blocks that the next pair takes: 160, or 144 at 8 lanes and 128 at 16 where a marker block opens the pair.
     pub fn block_count(&self) -> usize
-        ensures { result ≡ blocks_due lanes (line_of self.now) }
+        ensures { result ≡ blocks_due R.lanes (line_of self.now) }
     {
         4 * self.group_count()
     }
 
     // Whether a send would be refused.
     fn checked(&self, records: &[u8], room: usize) -> Result<(), Refusal>
-        ensures { Checked (send_refused (groups_of lanes (line_of self.now)) records.now room) result }
+        ensures { Checked (send_refused (groups_of R.lanes (line_of self.now)) records.now room) result }
     {
         if room < STRIP_BYTES {
             return Err(Refusal::Buffer);
@@ -132,9 +132,9 @@ impl<R: Rate> Sender<R> {
     // Puts the message of the next pair, and moves on to the pair behind it.
     fn put_message(&mut self, records: &[u8], bits: &mut [u8])
         requires room { length bits.old ≡ 10280 }
-        requires records { (length records.now ≡ 36 * groups_of lanes (line_of self.old)) × (bad_kind records.now ≡ None) }
-        ensures bits { bits.new ≡ pair_message lanes octet (line_of self.old) (blocks_of (groups_of lanes (line_of self.old)) records.now) }
-        ensures line { line_of self.new ≡ line_after lanes pairs (line_of self.old) (blocks_of (groups_of lanes (line_of self.old)) records.now) }
+        requires records { (length records.now ≡ 36 * groups_of R.lanes (line_of self.old)) × (bad_kind records.now ≡ None) }
+        ensures bits { bits.new ≡ pair_message R.lanes R.octet (line_of self.old) (blocks_of (groups_of R.lanes (line_of self.old)) records.now) }
+        ensures line { line_of self.new ≡ line_after R.lanes R.pairs (line_of self.old) (blocks_of (groups_of R.lanes (line_of self.old)) records.now) }
     {
         let groups = self.group_count();
         let at = put_opening::<R>(self.index == 0, &mut self.pad, self.status, bits);
@@ -145,10 +145,10 @@ impl<R: Rate> Sender<R> {
     // Sends the blocks of a pair, nine bytes a record, and answers the bytes written. The first 1,360 bytes of the strip get
     // the bits of lane 0, then of lane 1 and so on; the rest stays.
     pub fn send(&mut self, records: &[u8], strip: &mut [u8]) -> Result<usize, Refusal>
-        ensures answer { result ≡ answered (send_refused (groups_of lanes (line_of self.old)) records.now (length strip.old)) }
-        ensures strip { strip.new ≡ sent_strip lanes octet (line_of self.old) records.now strip.old }
-        ensures line { line_of self.new ≡ sent_line lanes pairs (line_of self.old) records.now (length strip.old) }
-        ensures laws { Sending lanes pairs octet }
+        ensures answer { result ≡ answered (send_refused (groups_of R.lanes (line_of self.old)) records.now (length strip.old)) }
+        ensures strip { strip.new ≡ sent_strip R.lanes R.octet (line_of self.old) records.now strip.old }
+        ensures line { line_of self.new ≡ sent_line R.lanes R.pairs (line_of self.old) records.now (length strip.old) }
+        ensures laws { Sending R.lanes R.pairs R.octet }
     {
         self.checked(records, strip.len())?;
         let mut bits = [0u8; MESSAGE_BITS];

@@ -12,8 +12,8 @@ loop-x-preserved c =
     let bits : List ℕ = c.args.bits.now in
     let inv = c.loop-x.invariant in
     let x : ℕ = c.loop-x.x in (
-      put_symbol c.loop-x.a x c.symbol-at.result (word_symbol bits 0) (omega arith) inv.0 (c.symbol-at.ensures ∙ ap (symbol_in bits) (sym (add-zero (2 * x)))),
-      put_symbol c.loop-x.b x c.symbol-at-in-loop-x.result (word_symbol bits 1) (omega arith) inv.1 c.symbol-at-in-loop-x.ensures,
+      put_symbol c.loop-x.a x c.symbol_at.result (word_symbol bits 0) (omega arith) inv.0 (c.symbol_at.ensures ∙ ap (symbol_in bits) (sym (add-zero (2 * x)))),
+      put_symbol c.loop-x.b x c.symbol_at-in-loop-x.result (word_symbol bits 1) (omega arith) inv.1 c.symbol_at-in-loop-x.ensures,
       simp length-set inv.2,
       simp length-set inv.3,
     )

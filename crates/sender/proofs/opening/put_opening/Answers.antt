@@ -15,4 +15,4 @@ pub returns : goal.returns
 unfolding opening pad_after
 returns g c =
     let e : c.args.opens ≡ true = c.if-not-opens.false in
-    record { size = rw e c.block-size.ensures; bits = rw e c.put-marker-block.ensures.bits; memory = rw e c.put-marker-block.ensures.memory }
+    record { size = rw e c.block_size.ensures; bits = rw e c.put_marker_block.ensures.bits; memory = rw e c.put_marker_block.ensures.memory }

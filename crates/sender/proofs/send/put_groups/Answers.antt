@@ -23,10 +23,10 @@ loop-g-preserved c =
     let m : List ℕ = out_memory c.args.scrambler.now in
     let inv = c.loop-g.invariant in
     let n : length bs ≡ 4 * c.args.groups = length_blocks (4 * c.args.groups) records in
-    let group : List ℕ = bits_of c.group-at.result in
-    let e : group ≡ group_bits _ = c.group-at.ensures ∙ ap group_bits (sym (blocks_group c.args.groups g records (omega arith))) in (
-      group_more bs g m (out_memory c.loop-g.scrambler) group (bits_of c.scramble-group.result) inv.1 e c.args.bits.now c.loop-g.bits c.put-group.new.bits c.args.at
-          (omega arith) (omega arith) c.scramble-group.ensures.out inv.0 c.put-group.ensures,
+    let group : List ℕ = bits_of c.group_at.result in
+    let e : group ≡ group_bits _ = c.group_at.ensures ∙ ap group_bits (sym (blocks_group c.args.groups g records (omega arith))) in (
+      group_more bs g m (out_memory c.loop-g.scrambler) group (bits_of c.scramble-group.result) inv.1 e c.args.bits.now c.loop-g.bits c.put_group.new.bits c.args.at
+          (omega arith) (omega arith) c.scramble-group.ensures.out inv.0 c.put_group.ensures,
       memory_more bs g m (out_memory c.loop-g.scrambler) group (bits_of c.scramble-group.result) inv.1 e (out_memory c.scramble-group.new.self) c.scramble-group.ensures.after,
     )
 

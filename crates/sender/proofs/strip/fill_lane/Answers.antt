@@ -20,10 +20,10 @@ pub loop-q-preserved : goal.loop-q-preserved
 loop-q-preserved c =
     let q : ℕ = c.loop-q.q in
     let part : List ℕ = c.loop-q.part in
-    let bytes : List ℕ = c.to-le-bytes-octets.result in
+    let bytes : List ℕ = c.to_le_bytes-octets.result in
     lane_step c.args.lanes c.args.a.now c.args.b.now c.args.lane q c.quad.result part bytes _ (omega arith) c.loop-q.invariant c.quad.ensures
-    (c.to-le-bytes-octets.ensures ∙ sym (eight_octets c.quad.result))
-    (put_at part c.copy-from-slice.new.self (5 * q) 5 ∙ ap (λ (ys : List ℕ). take (5 * q) part ++ (ys ++ drop (5 * q + 5) part)) c.copy-from-slice.ensures.after)
+    (c.to_le_bytes-octets.ensures ∙ sym (eight_octets c.quad.result))
+    (put_at part c.copy_from_slice.new.self (5 * q) 5 ∙ ap (λ (ys : List ℕ). take (5 * q) part ++ (ys ++ drop (5 * q + 5) part)) c.copy_from_slice.ensures.after)
 
 pub returns : goal.returns
 returns c =

@@ -8,7 +8,7 @@ unfolding strip_octets
 loop-lane-init c = ap (λ (n : ℕ). drop n c.args.strip.now) (sym (zero-mul (1360 / c.args.lanes)))
 
 pub loop-lane-preserved : goal.loop-lane-preserved
-loop-lane-preserved c = strip_step c.args.lanes c.args.a.now c.args.b.now c.loop-lane.lane c.args.strip.now c.loop-lane.strip c.fill-lane.new.part c.fill-lane.ensures c.loop-lane.invariant
+loop-lane-preserved c = strip_step c.args.lanes c.args.a.now c.args.b.now c.loop-lane.lane c.args.strip.now c.loop-lane.strip c.fill_lane.new.part c.fill_lane.ensures c.loop-lane.invariant
 
 pub returns : goal.returns
 returns c =

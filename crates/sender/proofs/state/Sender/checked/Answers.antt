@@ -4,17 +4,17 @@ use Rattle.sender.specs.View.{line_of}
 use Rattle.sender.proofs.Refused.{no_room, wrong_count, by_kind}
 use Rattle.sender.proofs.state.Sender.checked.Goals as goal
 
-pub returns-then-room-lt-STRIP-BYTES : goal.returns-then-room-lt-STRIP-BYTES
-returns-then-room-lt-STRIP-BYTES g c = no_room _ _ _ c.if-room-lt-STRIP-BYTES.true
+pub returns-then-room-lt-STRIP_BYTES : goal.returns-then-room-lt-STRIP_BYTES
+returns-then-room-lt-STRIP_BYTES g c = no_room _ _ _ c.if-room-lt-STRIP_BYTES.true
 
-pub returns-then-records-group-count : goal.returns-then-records-group-count
-returns-then-records-group-count g c =
-    wrong_count _ _ _ c.if-room-lt-STRIP-BYTES.false (λ e. c.if-records-group-count.true (e ∙ ap (λ (n : ℕ). 36 * n) (sym c.group-count.ensures)))
+pub returns-then-records-group_count : goal.returns-then-records-group_count
+returns-then-records-group_count g c =
+    wrong_count _ _ _ c.if-room-lt-STRIP_BYTES.false (λ e. c.if-records-group_count.true (e ∙ ap (λ (n : ℕ). 36 * n) (sym c.group_count.ensures)))
 
 pub returns-in-Some : goal.returns-in-Some
 returns-in-Some g c =
-    by_kind _ _ _ c.if-room-lt-STRIP-BYTES.false (c.if-records-group-count.false ∙ ap (λ (n : ℕ). 36 * n) c.group-count.ensures) _ c.in-Some.ensures
+    by_kind _ _ _ c.if-room-lt-STRIP_BYTES.false (c.if-records-group_count.false ∙ ap (λ (n : ℕ). 36 * n) c.group_count.ensures) _ c.in-Some.ensures
 
 pub returns-in-None : goal.returns-in-None
 returns-in-None g c =
-    by_kind _ _ _ c.if-room-lt-STRIP-BYTES.false (c.if-records-group-count.false ∙ ap (λ (n : ℕ). 36 * n) c.group-count.ensures) _ c.in-None.ensures
+    by_kind _ _ _ c.if-room-lt-STRIP_BYTES.false (c.if-records-group_count.false ∙ ap (λ (n : ℕ). 36 * n) c.group_count.ensures) _ c.in-None.ensures

@@ -11,13 +11,13 @@ use Rattle.sender.proofs.Refused.{accepted, strip_stays, strip_sent, line_stays,
 use Rattle.sender.proofs.WaysBack.{binary_pair}
 use Rattle.sender.proofs.state.Sender.send.Goals as goal
 
-pub returns-in-err-checked : goal.returns-in-err-checked
-returns-in-err-checked g c =
-    let p = err_from_is_err_and c.from-residual.result c.from-residual.ensures.1 in
+pub returns-in_err-checked : goal.returns-in_err-checked
+returns-in_err-checked g c =
+    let p = err_from_is_err_and c.from_residual.result c.from_residual.ensures.1 in
     let s : Line = line_of c.args.self.now in
     let records : List ℕ = c.args.records.now in
     let strip : List ℕ = c.args.strip.now in
-    let o = c.in-err-checked.ensures in
+    let o = c.in_err-checked.ensures in
     record {
       answer = p.1 ∙ ap Err p.2 ∙ ap answered (sym o);
       strip = strip_stays g.R.Rate.lanes s records g.R.Rate.octet strip _ o;
@@ -25,21 +25,21 @@ returns-in-err-checked g c =
       laws = sending g.R.Rate.lanes g.R.Rate.pairs g.R.Rate.octet g.met.R.Rate.lawful;
     }
 
-pub put-message-requires : goal.put-message-requires
-put-message-requires g c =
-    let a = accepted _ _ _ c.in-ok-checked.ensures in
+pub put_message-requires : goal.put_message-requires
+put_message-requires g c =
+    let a = accepted _ _ _ c.in_ok-checked.ensures in
     record { room = refl; records = (a.count, a.kinds) }
 
-pub put-words-requires : goal.put-words-requires
-put-words-requires g c =
+pub put_words-requires : goal.put_words-requires
+put_words-requires g c =
     let s : Line = line_of c.args.self.now in
     let binary = binary_pair g.R.Rate.lanes g.R.Rate.octet s (blocks_of (groups_of g.R.Rate.lanes s) c.args.records.now) (binary_memory c.args.self.now.scrambler.memory) (binary_field c.args.self.now.pad.memory 0 9) in
-    (subst Bits (sym c.put-message.ensures.bits) binary, c.put-message.auto.bits)
+    (subst Bits (sym c.put_message.ensures.bits) binary, c.put_message.auto.bits)
 
-pub fill-strip-requires : goal.fill-strip-requires
-fill-strip-requires g c =
-    let a = accepted _ _ _ c.in-ok-checked.ensures in
-    record { lanes = (subst Lanes (sym c.lane-count.ensures) g.met.R.Rate.lawful.width, a.room_enough); small = c.put-words.ensures.small }
+pub fill_strip-requires : goal.fill_strip-requires
+fill_strip-requires g c =
+    let a = accepted _ _ _ c.in_ok-checked.ensures in
+    record { lanes = (subst Lanes (sym c.lane_count.ensures) g.met.R.Rate.lawful.width, a.room_enough); small = c.put_words.ensures.small }
 
 pub returns : goal.returns
 unfolding strip_of
@@ -48,17 +48,17 @@ returns g c =
     let s : Line = line_of c.args.self.now in
     let records : List ℕ = c.args.records.now in
     let strip : List ℕ = c.args.strip.now in
-    let o = c.in-ok-checked.ensures in
+    let o = c.in_ok-checked.ensures in
     let bits : List ℕ = pair_message lanes g.R.Rate.octet s (blocks_of (groups_of lanes s) records) in
-    let e = c.put-message.ensures.bits in
-    let a : c.put-words.new.a ≡ word bits 0 = c.put-words.ensures.words.0 ∙ ap (λ (m : List ℕ). word m 0) e in
-    let b : c.put-words.new.b ≡ word bits 1 = c.put-words.ensures.words.1 ∙ ap (λ (m : List ℕ). word m 1) e in
+    let e = c.put_message.ensures.bits in
+    let a : c.put_words.new.a ≡ word bits 0 = c.put_words.ensures.words.0 ∙ ap (λ (m : List ℕ). word m 0) e in
+    let b : c.put_words.new.b ≡ word bits 1 = c.put_words.ensures.words.1 ∙ ap (λ (m : List ℕ). word m 1) e in
     record {
       answer = ap answered (sym o);
-      strip = c.fill-strip.ensures
-          ∙ ap (λ (n : ℕ). strip_octets n c.put-words.new.a c.put-words.new.b n ++ drop 1360 strip) c.lane-count.ensures
+      strip = c.fill_strip.ensures
+          ∙ ap (λ (n : ℕ). strip_octets n c.put_words.new.a c.put_words.new.b n ++ drop 1360 strip) c.lane_count.ensures
           ∙ ap₂ (λ (u v : List ℕ). strip_octets lanes u v lanes ++ drop 1360 strip) a b
           ∙ strip_sent lanes s records g.R.Rate.octet strip o;
-      line = c.put-message.ensures.line ∙ line_sent lanes s records g.R.Rate.pairs (length strip) o;
+      line = c.put_message.ensures.line ∙ line_sent lanes s records g.R.Rate.pairs (length strip) o;
       laws = sending lanes g.R.Rate.pairs g.R.Rate.octet g.met.R.Rate.lawful;
     }
