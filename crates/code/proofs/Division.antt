@@ -12,7 +12,7 @@ use Rattle.gf1024.specs.declared.element.Element.{Element}
 use Rattle.gf1024.specs.Product.{times}
 use Rattle.gf1024.specs.Field.{group, ring, alpha, element}
 use Rattle.gf1024.specs.ElementsLemmas.{same, laws}
-use Rattle.code.specs.Code.{value, Codeword, distance}
+use Rattle.code.specs.Code.{Codeword, distance}
 use Rattle.code.specs.Answers.{Encoded}
 use Rattle.code.specs.Lifting.{symbol}
 use Rattle.code.specs.Division.{tap, Register, Shifted, raised, Remainder, Appended}

@@ -1,5 +1,5 @@
 -- The locator argument: a polynomial that turns the syndromes to zero is zero at the point of each term.
-use Rattle.std.proofs.Common.{◌≡◌, ℕ, zero, ◌+◌, ◌<◌, ◌≤◌, List, length, sym, ap, ◌∙◌, inl, inr, ⊎_elim, arith}
+use Rattle.std.proofs.Common.{◌≡◌, ℕ, ◌+◌, ◌<◌, ◌≤◌, List, length, sym, ap, ◌∙◌, inl, inr, ⊎_elim, arith}
 use Rattle.field.specs.Laws.{Group, Ring, FieldLaws}
 use Rattle.field.specs.Sums.{sum, pow, syndrome, polynomial}
 use Rattle.field.specs.Places.{Within, Apart}

@@ -1,4 +1,4 @@
--- The product respects bitXor in each of its factors.
+-- The product respects bit_xor in each of its factors.
 use Rattle.std.specs.Prelude.{◌≡◌, ℕ, zero, suc, ◌+◌, ◌*◌, ◌/◌, ◌%◌, ◌^◌, ◌<◌, bit_xor, refl}
 use Rattle.std.proofs.Common.{sym, ◌∙◌, ap, ap₂, zero-mul, one-mul, add-zero, arith, lit<}
 use Rattle.std.specs.Int.Bits.{xor_zero_l, xor_zero_r, xor_self}

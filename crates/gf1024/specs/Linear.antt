@@ -1,11 +1,11 @@
--- Functions on numbers that respect bitXor.
+-- Functions on numbers that respect bit_xor.
 use Rattle.std.specs.Prelude.{◌≡◌, ℕ, zero, suc, ◌-◌, ◌*◌, ◌^◌, ◌<◌, bit_xor}
 use Rattle.std.proofs.Common.{sym, ◌∙◌, ap, ap₂, subst, pow-suc, one-mul, arith}
 use Rattle.std.proofs.Math.Decide.{dec_lt}
 use Rattle.std.specs.Int.Bits.{xor_assoc, xor_self, xor_shifted}
 use Rattle.std.proofs.lemmas.Nat.{xor_comm}
 
--- what holds of 0 and of each power, and is kept by bitXor, holds of all
+-- what holds of 0 and of each power, and is kept by bit_xor, holds of all
 pub span : (P : ℕ → Type 0) → P 0 → ((a b : ℕ) → P a → P b → P (bit_xor a b)) → (n : ℕ) → ((i : ℕ) → i < n → P (2 ^ i)) → (a : ℕ) → a < 2 ^ n → P a
 span P z s zero h a l = subst P (let e : 0 ≡ a = omega arith in e) z
 span P z s (suc n) h a l = go (span P z s n (λ i k. h i (omega arith))) (dec_lt a (2 ^ n))

@@ -1,9 +1,9 @@
 -- The symbols of a marker out of its number.
-use Rattle.std.proofs.Common.{◌≡◌, ℕ, zero, suc, ◌+◌, ◌-◌, ◌*◌, ◌/◌, ◌%◌, ◌^◌, ◌<◌, ◌≤◌, true, false, ltb, ◌⊎◌, List, [], ◌∷◌, ◌++◌, length, get_or, take, drop, replicate, sym, refl, ap, ◌∙◌, ap₂, inl, inr, arith}
+use Rattle.std.proofs.Common.{◌≡◌, ℕ, zero, suc, ◌+◌, ◌-◌, ◌*◌, ◌/◌, ◌%◌, ◌^◌, ◌<◌, ◌≤◌, ltb, List, [], ◌∷◌, ◌++◌, length, take, drop, replicate, sym, refl, ap, ◌∙◌, ap₂, inl, inr, arith}
 use native.Mathlib.Decide.{dec_le}
 use Rattle.std.proofs.lemmas.List.{drop_all, get_or_past}
-use Rattle.std.proofs.lemmas.Bool.{lt-ltb, cases_Bool, ltb-true}
-use Rattle.blocks.specs.Bits.{bit, field, number, octet_bits, table, nth}
+use Rattle.std.proofs.lemmas.Bool.{cases_Bool, ltb-true}
+use Rattle.blocks.specs.Bits.{field, number, octet_bits, table, nth}
 use Rattle.blocks.proofs.Fields.{length-field, field_join, take-field, drop-field, number-field}
 use Rattle.blocks.proofs.Scrambles.{length-table, nth-table}
 use Rattle.lanes.specs.Markers.{symbol_in, marker_at, marker_bits, octets_number}

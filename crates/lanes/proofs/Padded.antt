@@ -1,7 +1,7 @@
 -- A step of the pad generator.
-use Rattle.std.proofs.Common.{◌≡◌, ℕ, zero, suc, ◌+◌, ◌*◌, ◌/◌, ◌%◌, ◌^◌, ◌<◌, List, [], ◌∷◌, sym, refl, ap, ◌∙◌, ap₂, arith}
+use Rattle.std.proofs.Common.{◌≡◌, ℕ, ◌+◌, ◌*◌, ◌/◌, ◌%◌, ◌^◌, ◌<◌, List, ◌∷◌, sym, refl, ap, ◌∙◌, ap₂, arith}
 use lib.Bits.{bit_xor, xor_mod}
-use Rattle.blocks.specs.Bits.{bit, field, table, nth}
+use Rattle.blocks.specs.Bits.{field, table, nth}
 use Rattle.blocks.proofs.Fields.{field_cons, field_low}
 use Rattle.lanes.specs.Pads.{pad_before, pad_bit}
 

@@ -1,9 +1,8 @@
 -- What opens a pair and its groups make its message.
-use Rattle.std.proofs.Common.{◌≡◌, ℕ, ◌+◌, ◌-◌, ◌*◌, ◌/◌, Bool, true, false, List, [], ◌++◌, length, take, drop, is_some, Some, None, Option, sym, refl, ap, ◌∙◌, ap₂, inl, inr, append-nil, arith}
-use Rattle.std.specs.Option.{option_map}
+use Rattle.std.proofs.Common.{◌≡◌, ℕ, ◌+◌, ◌-◌, ◌*◌, ◌/◌, Bool, true, false, List, [], ◌++◌, length, take, drop, refl, ap, ◌∙◌, inl, inr, append-nil, arith}
 use Rattle.std.proofs.lemmas.List.{drop_all}
 use Rattle.blocks.proofs.Bytes.{put_more}
-use Rattle.sender.specs.Messages.{opening, opening_size, block_size, pad_size, group_count, marker_block, message}
+use Rattle.sender.specs.Messages.{opening, opening_size, block_size, pad_size, group_count, message}
 use Rattle.sender.specs.Packing.{Lanes}
 use Rattle.sender.proofs.Opened.{block_filled}
 use Rattle.sender.proofs.WaysBack.{length-marker_block}

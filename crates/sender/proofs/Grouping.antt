@@ -1,18 +1,16 @@
 -- The groups of a pair's records, scrambled one after another.
-use Rattle.std.proofs.Common.{◌≡◌, ℕ, zero, suc, ◌+◌, ◌-◌, ◌*◌, ◌/◌, ◌<◌, ◌≤◌, false, ltb, List, [], ◌∷◌, ◌++◌, length, get_or, take, drop, Some, None, sym, refl, ap, ◌∙◌, ap₂, append_assoc, append-nil, add-one, arith, length-append, length-drop}
-use Rattle.std.specs.Option.{option_map}
+use Rattle.std.proofs.Common.{◌≡◌, ℕ, ◌+◌, ◌-◌, ◌*◌, ◌/◌, ◌<◌, ◌≤◌, ltb, List, [], ◌++◌, length, get_or, take, drop, None, sym, refl, ap, ◌∙◌, ap₂, append_assoc, append-nil, add-one, arith, length-append, length-drop}
 use Rattle.std.proofs.lemmas.List.{length-take-le, take-append-drop, get_or-take, get_or-drop}
 use Rattle.std.proofs.lemmas.Bool.{eq-eqb}
-use Rattle.blocks.specs.Bits.{bit, table, nth}
+use Rattle.blocks.specs.Bits.{bit, nth}
 use Rattle.blocks.specs.Blocks.{blocks_in}
 use Rattle.blocks.specs.Calls.{lowest, kind_above_3, begun, bad_kind, four_refused}
 use Rattle.blocks.specs.Groups.{group_bits}
 use Rattle.blocks.specs.Scrambled.{before, memory_in, scrambled_bits, scrambler_after}
 use Rattle.blocks.specs.declared.block.Block.{Block}
-use Rattle.blocks.specs.declared.refusal.Refusal.TheVariants.{Kind}
 use Rattle.blocks.proofs.Bytes.{put_more}
 use Rattle.blocks.proofs.Lowest.{none_below}
-use Rattle.blocks.proofs.Scrambles.{table_same, length-table, nth-table, scrambled-append, after-append}
+use Rattle.blocks.proofs.Scrambles.{table_same, nth-table, scrambled-append, after-append}
 use Rattle.lanes.proofs.Lanes.{lowest-none}
 use Rattle.sender.specs.Messages.{group_at, group_stream}
 use Rattle.sender.proofs.Streams.{blocks_append, length-scrambled, length_stream}

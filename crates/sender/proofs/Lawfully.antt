@@ -1,5 +1,5 @@
 -- The laws of sending at a lawful rate, and the bits that a sender keeps.
-use Rattle.std.proofs.Common.{ℕ, ◌-◌, ◌%◌, ◌<◌, List, arith}
+use Rattle.std.proofs.Common.{ℕ, ◌-◌, arith}
 use Rattle.blocks.specs.Bits.{bit}
 use Rattle.blocks.specs.Scrambled.{memory_in}
 use Rattle.lanes.specs.Rates.{Lawful}

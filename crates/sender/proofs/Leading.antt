@@ -1,12 +1,12 @@
 -- A pair that opens a marker period leads with the markers.
-use Rattle.std.proofs.Common.{◌≡◌, ℕ, zero, suc, ◌+◌, ◌-◌, ◌*◌, ◌/◌, ◌%◌, ◌^◌, ◌<◌, true, eqb, List, [], ◌∷◌, ◌++◌, length, take, drop, sym, refl, ap, ◌∙◌, subst, ap₂, inl, inr, append_assoc, le_of_suc-le-suc, eq-or-lt_of_le, pow-suc, arith, lit<, length-append, pow_pos}
+use Rattle.std.proofs.Common.{◌≡◌, ℕ, zero, suc, ◌+◌, ◌-◌, ◌*◌, ◌/◌, ◌%◌, ◌^◌, ◌<◌, true, eqb, List, ◌++◌, length, take, sym, refl, ap, ◌∙◌, subst, ap₂, inl, inr, append_assoc, le_of_suc-le-suc, eq-or-lt_of_le, arith}
 use Rattle.std.proofs.lemmas.Nat.{shr-shr}
-use Rattle.std.proofs.lemmas.List.{take_at, drop_at, get_or-take}
+use Rattle.std.proofs.lemmas.List.{take_at, drop_at}
 use Rattle.std.proofs.lemmas.Bool.{cond_both, eqb-true, eqb-false}
 use Rattle.blocks.specs.Bits.{bit, field, number, table, nth}
 use Rattle.blocks.proofs.Fields.{length-field, bit-mod, number-whole}
-use Rattle.blocks.proofs.Scrambles.{table_same, field-table, length-table, nth-table}
-use Rattle.blocks.proofs.Shapes.{binary_drop, binary_field}
+use Rattle.blocks.proofs.Scrambles.{table_same, field-table}
+use Rattle.blocks.proofs.Shapes.{binary_field}
 use Rattle.lanes.specs.Markers.{symbol_in, marker_at, marker_bits, octets_number}
 use Rattle.lanes.specs.Rates.{Lawful}
 use Rattle.lanes.proofs.MarkerSymbols.{symbol_of_field, marker_field}

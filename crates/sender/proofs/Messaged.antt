@@ -1,13 +1,12 @@
 -- Bits put one after another, and symbols out of them.
-use Rattle.std.proofs.Common.{◌≡◌, ℕ, zero, suc, ◌+◌, ◌-◌, ◌*◌, ◌/◌, ◌%◌, ◌^◌, ◌<◌, ◌≤◌, ◌≢◌, List, [], ◌∷◌, ◌++◌, length, get_or, take, drop, set, sym, refl, ap, ◌∙◌, ap₂, append_assoc, append-nil, add-zero, add_assoc, add-one, arith, length-append, below_more}
+use Rattle.std.proofs.Common.{◌≡◌, ℕ, zero, suc, ◌+◌, ◌*◌, ◌<◌, ◌≤◌, ◌≢◌, List, [], ◌∷◌, ◌++◌, length, get_or, take, drop, set, sym, refl, ap, ◌∙◌, ap₂, append_assoc, append-nil, add-zero, add-one, arith, length-append, below_more}
 use Rattle.std.proofs.lemmas.List.{ext_get_or, get_or-set_same, get_or-set_other, drop_more, set_at, set_split, length-take-le, take-append-drop}
-use Rattle.blocks.specs.Bits.{bit, field, number, table, nth}
+use Rattle.blocks.specs.Bits.{bit, field, number, table}
 use Rattle.blocks.specs.Groups.{words}
 use Rattle.blocks.proofs.Fields.{length-field, field-append}
 use Rattle.blocks.proofs.Bytes.{put_more}
 use Rattle.blocks.proofs.Scrambles.{length-table, nth-table}
 use Rattle.lanes.specs.Markers.{symbol_in}
-use Rattle.sender.specs.Messages.{Bits}
 
 one_bit : (x i : ℕ) → field x i 1 ≡ bit x i ∷ []
 unfolding field

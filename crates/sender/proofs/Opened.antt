@@ -1,5 +1,5 @@
 -- The parts of a marker block, put one after another.
-use Rattle.std.proofs.Common.{◌≡◌, ℕ, zero, suc, ◌+◌, ◌-◌, ◌*◌, ◌/◌, ◌%◌, ◌<◌, ◌≤◌, ◌⊎◌, List, [], ◌∷◌, ◌++◌, length, take, drop, set, sym, refl, ap, ◌∙◌, ap₂, inl, inr, append_assoc, add-one, arith, length-append}
+use Rattle.std.proofs.Common.{◌≡◌, ℕ, zero, suc, ◌+◌, ◌*◌, ◌<◌, List, [], ◌∷◌, ◌++◌, length, take, drop, set, sym, ap, ◌∙◌, ap₂, inl, inr, append_assoc, add-one, arith, length-append}
 use lib.Bits.{bit_xor}
 use Rattle.std.proofs.lemmas.List.{length-take-le}
 use Rattle.blocks.specs.Bits.{field, table, nth}

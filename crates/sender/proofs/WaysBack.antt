@@ -1,7 +1,7 @@
 -- The way back from a strip to the blocks sent.
-use Rattle.std.proofs.Common.{◌≡◌, ℕ, zero, suc, ◌+◌, ◌-◌, ◌*◌, ◌/◌, ◌%◌, ◌<◌, ◌≤◌, Bool, true, false, eqb, List, [], ◌∷◌, ◌++◌, length, take, drop, sym, refl, ap, ◌∙◌, ap₂, inl, inr, append_assoc, append-nil, suc-mul, zero-mul, arith, length-append, length-drop}
+use Rattle.std.proofs.Common.{◌≡◌, ℕ, zero, suc, ◌+◌, ◌-◌, ◌*◌, ◌/◌, ◌%◌, ◌<◌, ◌≤◌, Bool, true, false, eqb, List, [], ◌∷◌, ◌++◌, length, take, drop, sym, refl, ap, ◌∙◌, ap₂, inl, inr, append_assoc, append-nil, suc-mul, arith, length-append, length-drop}
 use lib.Bits.{bit_xor}
-use Rattle.std.proofs.lemmas.List.{take_at, drop_at, take_all, drop-drop, take-append-le, drop-append-le, take-append-drop, get_or-take, length-take-le}
+use Rattle.std.proofs.lemmas.List.{take_at, drop_at, take_all, drop-drop, take-append-le, drop-append-le, take-append-drop, length-take-le}
 use Rattle.std.proofs.lemmas.Nat.{mul-le, xor_lt}
 use Rattle.std.proofs.lemmas.Bool.{cases_lt, cond_both}
 use Rattle.blocks.specs.Bits.{bit, field, number, octet_bits, table, nth}
@@ -17,7 +17,7 @@ use Rattle.blocks.proofs.Returned.{groups_return}
 use Rattle.lanes.specs.Markers.{symbol_in}
 use Rattle.lanes.specs.Rates.{Lawful, pair_bits}
 use Rattle.sender.specs.Lines.{Line, opens, groups_of, pair_message}
-use Rattle.sender.specs.Messages.{Bits, symbol_bits, marker_block_symbol, block_size, pad_size, marker_block, opening, opening_size, group_count, group_at, group_stream, message, word_symbol, word}
+use Rattle.sender.specs.Messages.{Bits, symbol_bits, marker_block_symbol, block_size, pad_size, marker_block, opening, opening_size, group_count, group_at, group_stream, message, word}
 use Rattle.sender.specs.Packing.{Small, Lanes}
 use Rattle.sender.specs.Pads.{pad_before, pad_bit}
 use Rattle.sender.specs.Places.{one_of, row_at, lane_at, OneToOne}
@@ -27,7 +27,7 @@ use Rattle.sender.proofs.Coded.{word-nth, length-word, word_small}
 use Rattle.sender.proofs.Messaged.{symbols_all}
 use Rattle.sender.proofs.Packs.{length_strip}
 use Rattle.sender.proofs.Streams.{length-scrambled, length_stream}
-use Rattle.sender.proofs.Symbols.{table_below, bits_of-octets, length-symbol_bits, binary_symbol_bits, symbol_bits-same, symbol_in-small, symbol_bits_in, symbol_in-table}
+use Rattle.sender.proofs.Symbols.{table_below, bits_of-octets, length-symbol_bits, binary_symbol_bits, symbol_bits-same, symbol_bits_in, symbol_in-table}
 
 -- the lanes of a strip
 length_lane : (lanes : ℕ) (a b : List ℕ) (l : ℕ) → length (lane_octets lanes a b l) ≡ 1360 / lanes

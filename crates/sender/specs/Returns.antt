@@ -1,5 +1,5 @@
 -- The way back from a strip to the blocks sent, step by step. Assumes nothing.
-use Rattle.std.specs.Prelude.{◌≡◌, ℕ, zero, suc, ◌+◌, ◌*◌, ◌/◌, ◌%◌, ◌<◌, Bool, true, cond, List, [], ◌++◌, length, take, drop}
+use Rattle.std.specs.Prelude.{◌≡◌, ℕ, zero, suc, ◌+◌, ◌*◌, ◌/◌, ◌%◌, ◌<◌, Bool, true, List, [], ◌++◌, length, take, drop}
 use Rattle.blocks.specs.Bits.{octet_bits, table, nth}
 use Rattle.blocks.specs.Groups.{read_back}
 use Rattle.blocks.specs.Scrambled.{descrambled_bits}

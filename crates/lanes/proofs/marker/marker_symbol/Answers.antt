@@ -1,6 +1,6 @@
-use Rattle.std.proofs.Common.{◌≡◌, ℕ, ◌*◌, ◌/◌, ◌%◌, ◌^◌, ◌≤◌, List, length, sym, ap, ◌∙◌, arith}
+use Rattle.std.proofs.Common.{◌≡◌, ℕ, ◌*◌, ◌/◌, ◌%◌, ◌^◌, List, sym, ap, ◌∙◌, arith}
 use Rattle.blocks.specs.Bits.{nth}
-use Rattle.lanes.specs.Markers.{symbol_in, marker_bits, octets_number}
+use Rattle.lanes.specs.Markers.{symbol_in, octets_number}
 use Rattle.lanes.proofs.MarkerSymbols.{marker_field, length_bits, symbol_of_field, symbol_past}
 use Rattle.lanes.proofs.marker.marker_symbol.Goals as goal
 

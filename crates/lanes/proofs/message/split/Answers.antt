@@ -1,4 +1,4 @@
-use Rattle.std.proofs.Common.{◌≡◌, ℕ, ◌+◌, ◌*◌, ◌<◌, ◌≢◌, List, length, get_or, set, sym, ap, ◌∙◌, add-zero, arith, length-set, below_none, below_more}
+use Rattle.std.proofs.Common.{ℕ, ◌*◌, List, sym, ap, ◌∙◌, add-zero, arith, length-set, below_none}
 use Rattle.lanes.specs.Messages.{message_symbol, word_symbol}
 use Rattle.lanes.proofs.Messaged.{put_symbol, symbols_all}
 use Rattle.lanes.proofs.message.split.Goals as goal

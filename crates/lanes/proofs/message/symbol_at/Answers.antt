@@ -1,4 +1,4 @@
-use Rattle.std.proofs.Common.{◌≡◌, ℕ, ◌+◌, ◌*◌, ◌≤◌, refl}
+use Rattle.std.proofs.Common.{◌*◌, refl}
 use Rattle.lanes.proofs.Messaged.{ten_bits}
 use Rattle.lanes.proofs.message.symbol_at.Goals as goal
 

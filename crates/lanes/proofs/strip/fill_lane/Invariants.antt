@@ -1,4 +1,4 @@
-use Rattle.std.proofs.Common.{◌≡◌, ℕ, ◌*◌, take}
+use Rattle.std.proofs.Common.{◌≡◌, ◌*◌, take}
 use Rattle.blocks.specs.Bits.{octets, table}
 use Rattle.lanes.specs.Strips.{pair_bit}
 use Rattle.lanes.proofs.strip.fill_lane.Given as goal

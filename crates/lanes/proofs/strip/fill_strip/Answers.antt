@@ -1,6 +1,6 @@
-use Rattle.std.proofs.Common.{◌≡◌, ℕ, ◌+◌, ◌*◌, ◌/◌, ◌<◌, ◌≤◌, List, ◌++◌, length, drop, sym, refl, ap, ◌∙◌, ap₂, zero-mul, arith}
+use Rattle.std.proofs.Common.{◌≡◌, ℕ, ◌*◌, ◌/◌, ◌++◌, drop, sym, ap, ◌∙◌, ap₂, zero-mul, arith}
 use Rattle.lanes.specs.Strips.{strip_octets}
-use Rattle.lanes.proofs.Packs.{part_inside, parts_whole, strip_step}
+use Rattle.lanes.proofs.Packs.{parts_whole, strip_step}
 use Rattle.lanes.proofs.strip.fill_strip.Goals as goal
 
 pub loop-lane-init : goal.loop-lane-init

@@ -1,4 +1,4 @@
-use Rattle.std.proofs.Common.{◌≡◌, ℕ, ◌*◌, ◌/◌, ◌++◌, drop}
+use Rattle.std.proofs.Common.{◌≡◌, ◌*◌, ◌/◌, ◌++◌, drop}
 use Rattle.lanes.specs.Strips.{strip_octets}
 use Rattle.lanes.proofs.strip.fill_strip.Given as goal
 

@@ -1,4 +1,3 @@
-use Rattle.std.proofs.Common.{◌≡◌, ◌∙◌}
 use Rattle.lanes.proofs.Packs.{quad_is}
 use Rattle.lanes.proofs.strip.quad.Goals as goal
 

@@ -1,4 +1,4 @@
-use Rattle.std.proofs.Common.{◌≡◌, ℕ, ◌+◌, ◌*◌, ◌<◌, ◌≢◌, List, length, get_or, set, sym, ap, ◌∙◌, add-zero, arith, length-set, below_none, below_more}
+use Rattle.std.proofs.Common.{ℕ, ◌*◌, List, sym, ap, ◌∙◌, add-zero, arith, length-set, below_none}
 use Rattle.lanes.specs.Markers.{symbol_in}
 use Rattle.sender.specs.Messages.{word_symbol}
 use Rattle.sender.proofs.Messaged.{put_symbol, symbols_all}

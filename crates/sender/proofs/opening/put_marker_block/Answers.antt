@@ -1,7 +1,7 @@
-use Rattle.std.proofs.Common.{◌≡◌, ℕ, ◌+◌, ◌-◌, ◌*◌, List, ◌++◌, length, take, drop, sym, ap, ◌∙◌, ap₂, arith}
+use Rattle.std.proofs.Common.{◌≡◌, ℕ, ◌+◌, ◌-◌, ◌*◌, List, ◌++◌, take, drop, ap, ◌∙◌, ap₂}
 use Rattle.blocks.specs.Bits.{field, table, nth}
 use Rattle.blocks.proofs.Scrambles.{length-table}
-use Rattle.sender.specs.Messages.{pad_size, block_size}
+use Rattle.sender.specs.Messages.{pad_size}
 use Rattle.sender.specs.Pads.{pad_before, pad_bit, pad_memory}
 use Rattle.sender.proofs.Opened.{block_put}
 use Rattle.sender.proofs.opening.put_marker_block.Goals as goal

@@ -1,4 +1,4 @@
-use Rattle.std.proofs.Common.{◌≡◌, ℕ, ◌*◌, ◌/◌, ◌%◌, List, ◌++◌, drop, sym, refl, ap, ◌∙◌, ap₂}
+use Rattle.std.proofs.Common.{◌≡◌, ℕ, ◌/◌, ◌%◌, refl, ap, ◌∙◌}
 use Rattle.lanes.specs.Markers.{symbol_in, marker_bits}
 use Rattle.sender.specs.Messages.{symbol_bits, marker_block_symbol, exchanged}
 use Rattle.sender.proofs.Opened.{symbol_put}

@@ -1,4 +1,4 @@
-use Rattle.std.proofs.Common.{◌≡◌, ℕ, ◌*◌, ◌++◌, drop}
+use Rattle.std.proofs.Common.{◌≡◌, ◌*◌, ◌++◌, drop}
 use Rattle.sender.specs.Messages.{symbol_bits, marker_block_symbol}
 use Rattle.sender.proofs.opening.put_markers.Given as goal
 

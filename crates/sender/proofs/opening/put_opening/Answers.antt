@@ -1,8 +1,6 @@
-use Rattle.std.proofs.Common.{◌≡◌, ℕ, Bool, true, false, List, ◌++◌, drop, sym, refl, ap, ◌∙◌}
-use Rattle.blocks.specs.Bits.{table, nth}
+use Rattle.std.proofs.Common.{◌≡◌, true, false, refl}
 use Rattle.sender.specs.Lines.{pad_after}
-use Rattle.sender.specs.Messages.{opening, opening_size, pad_size}
-use Rattle.sender.specs.Pads.{pad_bit, pad_memory}
+use Rattle.sender.specs.Messages.{opening}
 use Rattle.sender.proofs.opening.put_opening.Goals as goal
 
 pub returns-then-not-opens : goal.returns-then-not-opens

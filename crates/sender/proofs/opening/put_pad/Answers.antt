@@ -1,4 +1,4 @@
-use Rattle.std.proofs.Common.{◌≡◌, ℕ, ◌+◌, List, ◌++◌, take, drop, sym, refl, ap, ◌∙◌, ap₂, append_assoc, arith}
+use Rattle.std.proofs.Common.{◌≡◌, ℕ, ◌+◌, List, ◌++◌, take, drop, refl, ap, ◌∙◌, append_assoc, arith}
 use Rattle.blocks.specs.Bits.{field, table, nth}
 use Rattle.sender.specs.Pads.{pad_before, pad_bit, pad_memory}
 use Rattle.sender.proofs.Messaged.{put_none}

@@ -1,4 +1,4 @@
-use Rattle.std.proofs.Common.{◌≡◌, ℕ, ◌+◌, ◌++◌, take, drop}
+use Rattle.std.proofs.Common.{◌≡◌, ◌+◌, ◌++◌, take, drop}
 use Rattle.blocks.specs.Bits.{table, nth}
 use Rattle.sender.specs.Pads.{pad_before, pad_bit, pad_memory}
 use Rattle.sender.proofs.opening.put_pad.Given as goal

@@ -1,4 +1,4 @@
-use Rattle.std.proofs.Common.{◌≡◌, ℕ, ◌+◌, ◌*◌, ◌++◌, take, drop}
+use Rattle.std.proofs.Common.{◌≡◌, ◌+◌, ◌*◌, ◌++◌, take, drop}
 use Rattle.blocks.specs.Memories.{out_memory}
 use Rattle.blocks.specs.Scrambled.{scrambled_bits, scrambler_after}
 use Rattle.sender.specs.Lines.{blocks_of}

@@ -1,6 +1,5 @@
 use Rattle.std.proofs.Common.{◌≡◌, List}
 use Rattle.sender.specs.Messages.{Bits, word}
-use Rattle.sender.specs.Packing.{Small}
 use Rattle.sender.proofs.Coded.{coded, word_small}
 use Rattle.sender.proofs.send.put_words.Goals as goal
 

@@ -1,5 +1,5 @@
-use Rattle.std.proofs.Common.{◌≡◌, ℕ, ◌+◌, ◌*◌, ◌/◌, ◌<◌, ◌≤◌, List, ◌++◌, length, take, drop, sym, refl, ap, ◌∙◌, arith}
-use Rattle.blocks.specs.Bits.{octets, table}
+use Rattle.std.proofs.Common.{◌≡◌, ℕ, ◌+◌, ◌*◌, ◌/◌, List, ◌++◌, length, take, drop, sym, refl, ap, ◌∙◌, arith}
+use Rattle.blocks.specs.Bits.{octets}
 use Rattle.blocks.proofs.Bytes.{eight_octets, put_at}
 use Rattle.sender.proofs.Packs.{quad_inside, lane_step, lane_done}
 use Rattle.sender.proofs.strip.fill_lane.Goals as goal

@@ -1,4 +1,4 @@
-use Rattle.std.proofs.Common.{◌≡◌, ℕ, ◌*◌, ◌/◌, ◌++◌, drop}
+use Rattle.std.proofs.Common.{◌≡◌, ◌*◌, ◌/◌, ◌++◌, drop}
 use Rattle.sender.specs.Strips.{strip_octets}
 use Rattle.sender.proofs.strip.fill_strip.Given as goal
 

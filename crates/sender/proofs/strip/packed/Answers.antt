@@ -1,5 +1,3 @@
-use Rattle.std.proofs.Common.{◌≡◌, ℕ, ◌+◌, ◌*◌, ap, ◌∙◌, ap₂}
-use Rattle.blocks.specs.Bits.{field}
 use Rattle.sender.proofs.Packs.{packs}
 use Rattle.sender.proofs.strip.packed.Goals as goal
 

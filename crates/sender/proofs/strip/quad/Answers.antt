@@ -1,4 +1,3 @@
-use Rattle.std.proofs.Common.{◌≡◌, ◌∙◌}
 use Rattle.sender.proofs.Packs.{quad_is}
 use Rattle.sender.proofs.strip.quad.Goals as goal
 

@@ -1,4 +1,4 @@
-use Rattle.std.proofs.Common.{◌⊎◌, refl, inl, inr, arith}
+use Rattle.std.proofs.Common.{refl, inl, inr, arith}
 use Rattle.lanes.proofs.ByHand.{hand_checked}
 use Rattle.lanes.proofs.pad.Pad.new.Goals as goal
 

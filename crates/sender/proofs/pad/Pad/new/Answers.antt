@@ -1,4 +1,4 @@
-use Rattle.std.proofs.Common.{◌⊎◌, refl, inl, inr, arith}
+use Rattle.std.proofs.Common.{refl, inl, inr, arith}
 use Rattle.sender.proofs.pad.Pad.new.Goals as goal
 
 pub returns-then-start-eq0 : goal.returns-then-start-eq0

@@ -1,6 +1,4 @@
-use Rattle.std.proofs.Common.{◌≡◌, ℕ, ◌*◌, length, sym, ap, ◌∙◌, subst}
-use Rattle.sender.specs.Lines.{groups_of}
-use Rattle.sender.specs.View.{line_of}
+use Rattle.std.proofs.Common.{ℕ, ◌*◌, sym, ap, ◌∙◌}
 use Rattle.sender.proofs.Refused.{no_room, wrong_count, by_kind}
 use Rattle.sender.proofs.state.Sender.checked.Goals as goal
 

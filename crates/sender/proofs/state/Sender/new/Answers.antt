@@ -1,7 +1,6 @@
-use Rattle.std.proofs.Common.{◌≡◌, List, Err, Result, sym, refl, ap, ◌∙◌, subst, ap₂, arith}
+use Rattle.std.proofs.Common.{List, Err, Result, sym, refl, ap, ◌∙◌, subst, ap₂, arith}
 use Rattle.std.proofs.lemmas.Result.{err_from_is_err_and}
-use Rattle.sender.specs.Lines.{Line}
-use Rattle.sender.specs.View.{Allowed, Made}
+use Rattle.sender.specs.View.{Made}
 use Rattle.sender.specs.declared.refusal.Refusal.{Refusal}
 use Rattle.sender.specs.declared.refusal.Refusal.TheVariants.{Blocks}
 use Rattle.sender.specs.declared.state.Sender.{Sender}

@@ -1,10 +1,9 @@
-use Rattle.std.proofs.Common.{◌≡◌, ℕ, ◌+◌, ◌*◌, ◌%◌, Bool, eqb, List, ◌++◌, length, take, drop, sym, ap, ◌∙◌, ap₂}
+use Rattle.std.proofs.Common.{◌≡◌, ℕ, ◌+◌, ◌*◌, ◌%◌, Bool, eqb, List, ◌++◌, take, drop, ap, ◌∙◌, ap₂}
 use Rattle.blocks.specs.Bits.{table, nth}
-use Rattle.blocks.specs.Memories.{out_memory}
 use Rattle.blocks.specs.Scrambled.{scrambled_bits, scrambler_after}
 use Rattle.blocks.proofs.Scrambles.{length-table}
-use Rattle.sender.specs.Lines.{Line, groups_of, blocks_of, pair_message, line_after, pad_after}
-use Rattle.sender.specs.Messages.{opening_size, pad_size, group_count, group_stream}
+use Rattle.sender.specs.Lines.{Line, groups_of, blocks_of, pair_message, line_after}
+use Rattle.sender.specs.Messages.{opening_size, pad_size, group_stream}
 use Rattle.sender.specs.Pads.{pad_bit, pad_memory}
 use Rattle.sender.specs.View.{line_of}
 use Rattle.sender.proofs.Filled.{message_put}
