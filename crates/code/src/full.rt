@@ -4,7 +4,7 @@ ghost use Rattle.code.specs.Code.{WellFormed};
 ghost use Rattle.code.specs.Answers.{AnswersAgree};
 ghost use Rattle.code.specs.Lifting.{changes, Stored, Accepted, ProposedWord};
 ghost use Rattle.code.specs.Division.{RegisterValues, WordSyndromes};
-ghost use Rattle.std.proofs.Common.{rules};
+ghost use Rattle.std.proofs.Common.{lit≤};
 
 use super::engine::Engine;
 use super::places::Places;
@@ -126,7 +126,7 @@ fn store(elements: &[Element], word: &mut [u16])
 impl Engine for FullEngine {
     ghost reach = { 15 };
 
-    ghost bounded = { Prim.search rules };
+    ghost bounded = { lit≤ tt };
 
     fn correct(&mut self, word: &mut [u16]) -> Result<usize, Refusal> {
         check(word)?;

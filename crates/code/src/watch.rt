@@ -1,6 +1,6 @@
 // The engine of reach 0: it changes no word, and tells whether one is a codeword.
 ghost use Rattle.code.specs.Answers.{WatchingKeeps};
-ghost use Rattle.std.proofs.Common.{rules};
+ghost use Rattle.std.proofs.Common.{lit≤};
 
 use super::engine::Engine;
 use super::refusal::Refusal;
@@ -22,7 +22,7 @@ impl WatchEngine {
 impl Engine for WatchEngine {
     ghost reach = { 0 };
 
-    ghost bounded = { Prim.search rules };
+    ghost bounded = { lit≤ tt };
 
     fn correct(&mut self, word: &mut [u16]) -> Result<usize, Refusal> {
         check(word)?;
