@@ -9,6 +9,7 @@ docs/ and the README follow. It prints each name that changed.
 """
 import os
 import re
+import subprocess
 import sys
 
 TOKEN = re.compile(r"[^\s(){}\[\],;.`]+")
@@ -47,6 +48,12 @@ def of_function(path):
 
 def code(line, mark):
     return line.split(mark)[0]
+
+
+def kit_library():
+    """The kit's library, which lies beside the page that it names first."""
+    page = subprocess.run(["rt", "doc"], capture_output=True, text=True, check=True).stdout.strip()
+    return os.path.join(os.path.dirname(page), "rattle")
 
 
 def dashed(name):
@@ -113,8 +120,8 @@ def declared(path):
     return tops, fields
 
 
-def respell(text, mark, new, fields):
-    """New names for old in code; in comments too, between backticks or as they stand."""
+def respell(text, new, fields):
+    """New names for old, in code and in comments."""
 
     def one(match):
         old = match.group(0)
@@ -134,7 +141,7 @@ def of_use(text, at):
 
 def main(argv):
     top = argv[0] if argv and not argv[0].startswith("--") else "."
-    kit = argv[argv.index("--kit") + 1] if "--kit" in argv else "/opt/rattle/rattle"
+    kit = argv[argv.index("--kit") + 1] if "--kit" in argv else kit_library()
     known = set()
     for path in files(kit, (".antt",)):
         known.update(t for t in TOKEN.findall(read(path)) if "-" in t)
@@ -144,6 +151,7 @@ def main(argv):
     for path in antt:
         tops[path], own = declared(path)
         if of_function(path):
+            # The one lemma that such a file has of its own.
             tops[path] = {n for n in tops[path] if n == "four-bits"}
             continue
         for n in own:
@@ -175,7 +183,7 @@ def main(argv):
                         new[t] = snake(t)
         new = {k: v for k, v in new.items() if k != v}
         changed.update(new)
-        after = respell(text, "--", new, fields)
+        after = respell(text, new, fields)
         if after != text:
             with open(path, "w", encoding="utf-8") as f:
                 f.write(after)
