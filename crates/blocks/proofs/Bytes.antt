@@ -1,37 +1,11 @@
 -- Octets and the 64 bits of eight of them.
-use Rattle.std.proofs.Common.{◌≡◌, ℕ, zero, suc, ◌+◌, ◌-◌, ◌*◌, ◌/◌, ◌%◌, ◌^◌, ◌<◌, ◌≤◌, List, [], ◌∷◌, ◌++◌, length, get_or, take, drop, sym, refl, ap, ◌∙◌, ap₂, append_assoc, add-zero, suc-add, zero-add, add-one, arith, length-drop}
+use Rattle.std.proofs.Common.{◌≡◌, ℕ, zero, suc, ◌+◌, ◌-◌, ◌*◌, ◌/◌, ◌%◌, ◌^◌, ◌<◌, ◌≤◌, List, [], ◌∷◌, ◌++◌, length, get_or, take, drop, sym, refl, ap, ◌∙◌, ap₂, append_assoc, suc-add, zero-add, arith, length-drop}
 use borrow.Rule.Slice.PartMut.{put_mid}
-use Rattle.std.proofs.lemmas.List.{take_at, drop_at, drop-drop, drop_more, get_or-drop, take-append-le, drop-append-le, take-append-drop}
+use Rattle.std.specs.Int.{from_le_bytes}
+use mir.Syntax.{w64}
+use Rattle.std.proofs.lemmas.List.{take_at, drop_at, drop-drop, take-append-le, drop-append-le, take-append-drop}
 use Rattle.blocks.specs.Bits.{field, number, octet_bits, octets}
 use Rattle.blocks.proofs.Fields.{field_join, number-field, take-field, drop-field}
-
--- n elements from place k on, one by one
-run : ℕ → ℕ → List ℕ → List ℕ
-run zero k xs = []
-run (suc n) k xs = get_or xs k 0 ∷ run n (suc k) xs
-
-taken : (n k : ℕ) (xs : List ℕ) → k + n ≤ length xs → take n (drop k xs) ≡ run n k xs
-unfolding run
-taken zero k xs h = refl
-taken (suc n) k xs h =
-    let l : k < length xs = omega arith in
-    ap (take (suc n)) (drop_more xs k 0 l) ∙ ap (λ (j : ℕ). get_or xs k 0 ∷ take n (drop j xs)) (add-one k) ∙ ap (λ (ys : List ℕ). get_or xs k 0 ∷ ys) (taken n (suc k) xs (omega arith))
-
-pub eight : (xs : List ℕ) (at : ℕ) → at + 8 ≤ length xs → take 8 (drop at xs) ≡
-    get_or xs at 0 ∷ get_or xs (at + 1) 0 ∷ get_or xs (at + 2) 0 ∷ get_or xs (at + 3) 0 ∷ get_or xs (at + 4) 0 ∷ get_or xs (at + 5) 0 ∷ get_or xs (at + 6) 0 ∷ get_or xs (at + 7) 0 ∷ []
-unfolding run
-eight xs at h =
-    let n : length (drop at xs) ≡ length xs - at = length-drop at xs in
-    let e : take 8 (drop at xs) ≡ run 8 0 (drop at xs) = taken 8 0 (drop at xs) (omega arith) in
-    let e0 : get_or (drop at xs) 0 0 ≡ get_or xs at 0 = get_or-drop at xs 0 0 ∙ ap (λ (k : ℕ). get_or xs k 0) (add-zero at) in
-    let e1 : get_or (drop at xs) 1 0 ≡ get_or xs (at + 1) 0 = get_or-drop at xs 1 0 in
-    let e2 : get_or (drop at xs) 2 0 ≡ get_or xs (at + 2) 0 = get_or-drop at xs 2 0 in
-    let e3 : get_or (drop at xs) 3 0 ≡ get_or xs (at + 3) 0 = get_or-drop at xs 3 0 in
-    let e4 : get_or (drop at xs) 4 0 ≡ get_or xs (at + 4) 0 = get_or-drop at xs 4 0 in
-    let e5 : get_or (drop at xs) 5 0 ≡ get_or xs (at + 5) 0 = get_or-drop at xs 5 0 in
-    let e6 : get_or (drop at xs) 6 0 ≡ get_or xs (at + 6) 0 = get_or-drop at xs 6 0 in
-    let e7 : get_or (drop at xs) 7 0 ≡ get_or xs (at + 7) 0 = get_or-drop at xs 7 0 in
-    cc
 
 empty : (x : ℕ) → field x 0 0 ≡ []
 unfolding field
@@ -59,6 +33,18 @@ le_bits a b c d e f g h ha hb hc hd he hf hg hh =
     field_join n6 8 f 16 hf ∙ ap (λ (l : List ℕ). field f 0 8 ++ l) (
     field_join n7 8 g 8 hg ∙ ap (λ (l : List ℕ). field g 0 8 ++ l) (
     field_join 0 8 h 0 hh ∙ ap (λ (l : List ℕ). field h 0 8 ++ l) (empty 0))))))))
+
+pub le_octets : (xs : List ℕ) → length xs ≡ 8 → ((i : ℕ) → get_or xs i 0 < 256) → field (from_le_bytes w64 xs) 0 64 ≡ octet_bits xs
+le_octets (a ∷ b ∷ c ∷ d ∷ e ∷ f ∷ g ∷ h ∷ []) n small = le_bits a b c d e f g h (small 0) (small 1) (small 2) (small 3) (small 4) (small 5) (small 6) (small 7)
+le_octets (a ∷ b ∷ c ∷ d ∷ e ∷ f ∷ g ∷ h ∷ x ∷ xs) n small = absurd (omega arith)
+le_octets (a ∷ b ∷ c ∷ d ∷ e ∷ f ∷ g ∷ []) n small = absurd (omega arith)
+le_octets (a ∷ b ∷ c ∷ d ∷ e ∷ f ∷ []) n small = absurd (omega arith)
+le_octets (a ∷ b ∷ c ∷ d ∷ e ∷ []) n small = absurd (omega arith)
+le_octets (a ∷ b ∷ c ∷ d ∷ []) n small = absurd (omega arith)
+le_octets (a ∷ b ∷ c ∷ []) n small = absurd (omega arith)
+le_octets (a ∷ b ∷ []) n small = absurd (omega arith)
+le_octets (a ∷ []) n small = absurd (omega arith)
+le_octets [] n small = absurd (omega arith)
 
 -- octets of a number
 le_list : ℕ → ℕ → ℕ → List ℕ

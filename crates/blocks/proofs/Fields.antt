@@ -29,13 +29,13 @@ bit-mod x n i l =
     ∙ ap (λ (m : ℕ). x / 2 ^ i % 2 ^ m % 2) j ∙ ap (λ (y : ℕ). y % 2) (mod-pow-add (x / 2 ^ i) (n - i - 1) 1)
     ∙ omega arith
 
-bit_low : (a k x i : ℕ) → x < 2 ^ k → i < k → bit (a * 2 ^ k + x) i ≡ bit x i
-bit_low a k x i h l = sym (bit-mod (a * 2 ^ k + x) k i l) ∙ ap (λ (y : ℕ). bit y i) (mod_low a k x h)
+pub field-mod : (x k i n : ℕ) → i + n ≤ k → field (x % 2 ^ k) i n ≡ field x i n
+unfolding field
+field-mod x k i zero l = refl
+field-mod x k i (suc n) l = ap₂ (λ (b : ℕ) (bs : List ℕ). b ∷ bs) (bit-mod x k i (omega arith)) (field-mod x k (suc i) n (omega arith))
 
 pub field_low : (a k x i n : ℕ) → x < 2 ^ k → i + n ≤ k → field (a * 2 ^ k + x) i n ≡ field x i n
-unfolding field
-field_low a k x i zero h l = refl
-field_low a k x i (suc n) h l = ap₂ (λ (b : ℕ) (bs : List ℕ). b ∷ bs) (bit_low a k x i h (omega arith)) (field_low a k x (suc i) n h (omega arith))
+field_low a k x i n h l = sym (field-mod (a * 2 ^ k + x) k i n l) ∙ ap (λ (y : ℕ). field y i n) (mod_low a k x h)
 
 pub field_high : (a k x i n : ℕ) → x < 2 ^ k → field (a * 2 ^ k + x) (k + i) n ≡ field a i n
 field_high a k x i n h = sym (field_shift (a * 2 ^ k + x) k i n) ∙ ap (λ (y : ℕ). field y i n) (shr_high a k x h)

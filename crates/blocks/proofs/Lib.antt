@@ -2,6 +2,7 @@ pub mod Fields
 pub mod Parts
 pub mod Written
 pub mod Bytes
+pub mod Arrays
 pub mod Lowest
 pub mod Buffers
 pub mod Reading

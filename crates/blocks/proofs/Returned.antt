@@ -1,17 +1,20 @@
 -- What comes back of a group, and that a sound one comes back as it was.
-use Rattle.std.proofs.Common.{◌≡◌, ℕ, zero, suc, ◌+◌, ◌*◌, ◌/◌, ◌%◌, ◌^◌, ◌<◌, Bool, true, false, cond, eqb, List, [], ◌∷◌, ◌++◌, map, length, get_or, take, drop, set, Some, None, Option, sym, refl, ap, ◌∙◌, subst, ap₂, inl, inr, append_assoc, div-one, arith, lit<}
+use Rattle.std.proofs.Common.{◌≡◌, ℕ, zero, suc, ◌+◌, ◌*◌, ◌/◌, ◌%◌, ◌^◌, ◌<◌, Bool, true, false, cond, eqb, List, [], ◌∷◌, ◌++◌, map, length, take, drop, set, Some, None, Option, sym, refl, ap, ◌∙◌, subst, ap₂, inl, inr, append_assoc, div-one, arith, lit<}
+use Rattle.std.specs.List.{find}
+use Rattle.std.specs.Option.{option_map}
 use Rattle.std.proofs.lemmas.Nat.{field_of}
 use Rattle.std.proofs.lemmas.List.{take_at, drop_at, length-set}
-use Rattle.std.proofs.lemmas.Bool.{cases_Bool, cases_lt, eqb-true}
+use Rattle.std.proofs.lemmas.Bool.{cases_Bool, eqb-true}
 use Rattle.blocks.specs.Bits.{field, number}
-use Rattle.blocks.specs.Blocks.{second_bit, payload_bits}
+use Rattle.blocks.specs.Blocks.{second_bit, is_control, payload_bits}
 use Rattle.blocks.specs.Groups.{headers, payloads, all_good, some_control, first_control_place, without, with_digit_at, group_bits, types, fitting, high_digit, flagged, some_zero, first_zero_place, blocks_of, control_back, flags_back, read_back}
-use Rattle.blocks.specs.Sound.{is_type, payload_at, sound, retyped, put_digit, with_headers, control_comes, comes_back, Payloads, GroupsReturn}
+use Rattle.blocks.specs.Sound.{among, is_type, payload_at, sound, retyped, put_digit, with_headers, control_comes, comes_back, Payloads, GroupsReturn}
 use Rattle.blocks.specs.declared.block.Header.{Header}
 use Rattle.blocks.specs.declared.block.Header.TheVariants.{Zeros, Control, Data, Ones}
 use Rattle.blocks.specs.declared.block.Block.{Block}
 use Rattle.blocks.proofs.Fields.{length-field, number-field, number-whole}
-use Rattle.blocks.proofs.Reading.{data_read}
+use Rattle.blocks.proofs.Reading.{data_read, zero_control, first_zero}
+use Rattle.blocks.proofs.Written.{first_inside}
 use Rattle.blocks.proofs.Parts.{around, take_past, drop_past, without_past, take_in, drop_in}
 
 -- four bits left out of a part and four put in
@@ -40,7 +43,7 @@ one_on : (c : ℕ) → 64 * suc c + 4 ≡ 64 + (64 * c + 4)
 one_on c = omega arith
 
 -- the digit of block c is left out and d is put in
-pub digit_put : (c d : ℕ) (bs : List Block) → c < length bs → d < 16 → with_digit_at (64 * c + 4) d (without (64 * c + 4) (payloads bs)) ≡ payloads (put_digit c d bs)
+digit_put : (c d : ℕ) (bs : List Block) → c < length bs → d < 16 → with_digit_at (64 * c + 4) d (without (64 * c + 4) (payloads bs)) ≡ payloads (put_digit c d bs)
 digit_put c d [] l h = absurd (omega arith)
 digit_put zero d (b ∷ bs) l h = put_in b.payload (payloads bs) d h
 digit_put (suc c) d (b ∷ bs) l h =
@@ -50,7 +53,7 @@ digit_put (suc c) d (b ∷ bs) l h =
     ∙ ap (λ (s : List ℕ). payload_bits b ++ s) (digit_put c d bs (omega arith) h))
 
 -- the low digit of block c's type is where reading back looks for it
-pub digit_low : (c : ℕ) (bs : List Block) → c < length bs → number (take 4 (drop (64 * c) (without (64 * c + 4) (payloads bs)))) ≡ payload_at c bs % 16
+digit_low : (c : ℕ) (bs : List Block) → c < length bs → number (take 4 (drop (64 * c) (without (64 * c + 4) (payloads bs)))) ≡ payload_at c bs % 16
 digit_low c [] l = absurd (omega arith)
 digit_low zero (b ∷ bs) l = low b.payload (payloads bs)
 digit_low (suc c) (b ∷ bs) l =
@@ -61,7 +64,7 @@ digit_low (suc c) (b ∷ bs) l =
     ∙ digit_low c bs (omega arith))
 
 -- blocks out of payloads
-pub under : (hs : List Header) (bs : List Block) → length hs ≡ length bs → Payloads bs → blocks_of hs (payloads bs) ≡ with_headers hs bs
+under : (hs : List Header) (bs : List Block) → length hs ≡ length bs → Payloads bs → blocks_of hs (payloads bs) ≡ with_headers hs bs
 under [] [] e p = refl
 under [] (b ∷ bs) e p = absurd (omega arith)
 under (h ∷ hs) [] e p = absurd (omega arith)
@@ -95,40 +98,25 @@ payloads_put zero d (b ∷ bs) h p = let x : b.payload < 2 ^ 64 = p.0 in (omega 
 payloads_put (suc c) d (b ∷ bs) h p = (p.0, payloads_put c d bs h p.1)
 
 -- where all headers are good, flags tell them
-flags_zero : (hs : List Header) → all_good hs ≡ true → some_zero (map second_bit hs) ≡ some_control hs
-flags_zero [] g = refl
-flags_zero (Zeros ∷ hs) g = let z : ◌≡◌ {A = ℕ} 0 1 = cc in absurd (omega arith)
-flags_zero (Control ∷ hs) g = refl
-flags_zero (Data ∷ hs) g = flags_zero hs g
-flags_zero (Ones ∷ hs) g = let z : ◌≡◌ {A = ℕ} 0 1 = cc in absurd (omega arith)
-
-flags_first : (hs : List Header) → all_good hs ≡ true → first_zero_place (map second_bit hs) ≡ first_control_place hs
-flags_first [] g = refl
-flags_first (Zeros ∷ hs) g = let z : ◌≡◌ {A = ℕ} 0 1 = cc in absurd (omega arith)
-flags_first (Control ∷ hs) g = refl
-flags_first (Data ∷ hs) g = ap suc (flags_first hs g)
-flags_first (Ones ∷ hs) g = let z : ◌≡◌ {A = ℕ} 0 1 = cc in absurd (omega arith)
-
 flags_headers : (hs : List Header) → all_good hs ≡ true → map flagged (map second_bit hs) ≡ hs
 flags_headers [] g = refl
-flags_headers (Zeros ∷ hs) g = let z : ◌≡◌ {A = ℕ} 0 1 = cc in absurd (omega arith)
+flags_headers (Zeros ∷ hs) g = cc
 flags_headers (Control ∷ hs) g = ap (λ (l : List Header). Control ∷ l) (flags_headers hs g)
 flags_headers (Data ∷ hs) g = ap (λ (l : List Header). Data ∷ l) (flags_headers hs g)
-flags_headers (Ones ∷ hs) g = let z : ◌≡◌ {A = ℕ} 0 1 = cc in absurd (omega arith)
+flags_headers (Ones ∷ hs) g = cc
 
-pub first_inside : (hs : List Header) → some_control hs ≡ true → first_control_place hs < length hs
-first_inside [] s = let z : ◌≡◌ {A = ℕ} 0 1 = cc in absurd (omega arith)
-first_inside (Zeros ∷ hs) s = let r = first_inside hs s in omega arith
-first_inside (Control ∷ hs) s = omega arith
-first_inside (Data ∷ hs) s = let r = first_inside hs s in omega arith
-first_inside (Ones ∷ hs) s = let r = first_inside hs s in omega arith
+flags_zero : (hs : List Header) → all_good hs ≡ true → some_zero (map second_bit hs) ≡ some_control hs
+flags_zero hs g = sym (zero_control (map second_bit hs)) ∙ ap some_control (flags_headers hs g)
+
+flags_first : (hs : List Header) → all_good hs ≡ true → first_zero_place (map second_bit hs) ≡ first_control_place hs
+flags_first hs g = sym (first_zero (map second_bit hs)) ∙ ap first_control_place (flags_headers hs g)
 
 all_data : (hs : List Header) → all_good hs ≡ true → some_control hs ≡ false → map (λ (h : Header). Data) hs ≡ hs
 all_data [] g s = refl
-all_data (Zeros ∷ hs) g s = let z : ◌≡◌ {A = ℕ} 0 1 = cc in absurd (omega arith)
-all_data (Control ∷ hs) g s = let z : ◌≡◌ {A = ℕ} 0 1 = cc in absurd (omega arith)
+all_data (Zeros ∷ hs) g s = cc
+all_data (Control ∷ hs) g s = cc
 all_data (Data ∷ hs) g s = ap (λ (l : List Header). Data ∷ l) (all_data hs g s)
-all_data (Ones ∷ hs) g s = let z : ◌≡◌ {A = ℕ} 0 1 = cc in absurd (omega arith)
+all_data (Ones ∷ hs) g s = cc
 
 -- a digit that fits is a digit
 Octets : List ℕ → Type 0
@@ -137,7 +125,7 @@ Octets (t ∷ ts) = (t < 256) × Octets ts
 
 fitting-digit : (ts : List ℕ) (x d : ℕ) → Octets ts → fitting ts x ≡ Some d → d < 16
 unfolding Octets
-fitting-digit [] x d o e = let z : ◌≡◌ {A = ℕ} 0 1 = cc in absurd (omega arith)
+fitting-digit [] x d o e = cc
 fitting-digit (t ∷ ts) x d o e = elim (cases_Bool (eqb (t % 16) x)) [
   | inl q ↦ let k = rw q at e in let z : t / 16 ≡ d = cc in let s : t < 256 = o.0 in omega arith
   | inr q ↦ fitting-digit ts x d o.1 (rw q at e)
@@ -227,55 +215,30 @@ module _ (a b c d : Block) (p : Payloads (a ∷ b ∷ c ∷ d ∷ [])) where
             ∙ sym (bad_came bs g)
       ]
 
--- whether the type that has the low digit of t is t, and that this is so of the listed types alone
-abbrev pub fits_own : Option ℕ → ℕ → Bool
-fits_own (Some d) x = eqb d x
-fits_own None x = false
+-- a listed type is the type that has its low digit
+Own : List ℕ → Type 0
+Own [] = Unit {0}
+Own (t ∷ ts) = (high_digit (t % 16) ≡ Some (t / 16)) × Own ts
 
-unfoldable pub own_type : ℕ → Bool
-own_type t = fits_own (high_digit (t % 16)) (t / 16)
-
-same : Bool → Bool → Bool
-same true b = b
-same false true = false
-same false false = true
-
-listed_below : ℕ → Bool
-listed_below zero = true
-listed_below (suc n) = cond (same (own_type n) (is_type n)) (listed_below n) false
-
-listed_256 : listed_below 256 ≡ true
-unfolding listed_below same own_type is_type high_digit types
-listed_256 = refl
-
-from_same : (x y : Bool) → same x y ≡ true → x ≡ y
-unfolding same
-from_same true true e = refl
-from_same true false e = let z : ◌≡◌ {A = ℕ} 0 1 = cc in absurd (omega arith)
-from_same false true e = let z : ◌≡◌ {A = ℕ} 0 1 = cc in absurd (omega arith)
-from_same false false e = refl
-
-listed_at : (n t : ℕ) → t < n → listed_below n ≡ true → own_type t ≡ is_type t
-unfolding listed_below
-listed_at zero t l e = absurd (omega arith)
-listed_at (suc n) t l e = elim (cases_Bool (same (own_type n) (is_type n))) [
-  | inl q ↦ elim (cases_lt t n) [
-    | inl m ↦ listed_at n t m (rw q at e)
-    | inr m ↦ let s : n ≡ t = omega arith in subst (λ (j : ℕ). own_type j ≡ is_type j) s (from_same (own_type n) (is_type n) q)
-  ]
-  | inr q ↦ let k = rw q at e in let z : ◌≡◌ {A = ℕ} 0 1 = cc in absurd (omega arith)
+own_among : (ts : List ℕ) (x : ℕ) → Own ts → among ts x ≡ true → high_digit (x % 16) ≡ Some (x / 16)
+unfolding Own
+own_among [] x o e = cc
+own_among (t ∷ ts) x o e = elim (cases_Bool (eqb t x)) [
+  | inl q ↦ let s : t ≡ x = eqb-true t x q in subst (λ (y : ℕ). high_digit (y % 16) ≡ Some (y / 16)) s o.0
+  | inr q ↦ own_among ts x o.1 (rw q at e)
 ]
 
-pub listed : (t : ℕ) → t < 256 → own_type t ≡ is_type t
-listed t l = listed_at 256 t l listed_256
+own_digit : (x : ℕ) → is_type x ≡ true → high_digit (x % 16) ≡ Some (x / 16)
+unfolding Own is_type high_digit types
+own_digit x e = own_among types x (refl, (refl, (refl, (refl, (refl, (refl, (refl, (refl, (refl, (refl, (refl, tt))))))))))) e
 
-own-found : (o : Option ℕ) (x : ℕ) → fits_own o x ≡ true → o ≡ Some x
-own-found (Some d) x q = ap Some (eqb-true d x q)
-own-found None x q = let z : ◌≡◌ {A = ℕ} 0 1 = cc in absurd (omega arith)
-
-own-digit : (t : ℕ) → own_type t ≡ true → high_digit (t % 16) ≡ Some (t / 16)
-unfolding own_type
-own-digit t e = own-found (high_digit (t % 16)) (t / 16) e
+-- the high digit by looking through the types
+pub fitting_found : (ts : List ℕ) (d : ℕ) → option_map (λ (t : ℕ). t / 16) (find (λ (t : ℕ). eqb (t % 16) d) ts) ≡ fitting ts d
+fitting_found [] d = refl
+fitting_found (t ∷ ts) d = elim (cases_Bool (eqb (t % 16) d)) [
+  | inl q ↦ rw q
+  | inr q ↦ rw q (fitting_found ts d)
+]
 
 put_own : (c : ℕ) (bs : List Block) → put_digit c (payload_at c bs / 16 % 16) bs ≡ bs
 put_own c [] = refl
@@ -285,14 +248,14 @@ put_own (suc c) (b ∷ bs) = ap (λ (l : List Block). b ∷ l) (put_own c bs)
 sound_comes : (bs : List Block) → sound bs ≡ true → comes_back bs ≡ bs
 unfolding sound
 sound_comes bs e = elim (cases_Bool (all_good (headers bs))) [
-  | inr g ↦ let k = rw g at e in let z : ◌≡◌ {A = ℕ} 0 1 = cc in absurd (omega arith)
+  | inr g ↦ let k = rw g at e in cc
   | inl g ↦ elim (cases_Bool (some_control (headers bs))) [
     | inr s ↦ data_came bs g s
     | inl s ↦
         let c : ℕ = first_control_place (headers bs) in
         let x : ℕ = payload_at c bs in
         let t : is_type (x % 256) ≡ true = rw (g, s) at e in
-        let d : high_digit (x % 256 % 16) ≡ Some (x % 256 / 16) = own-digit (x % 256) (listed (x % 256) (omega arith) ∙ t) in
+        let d : high_digit (x % 256 % 16) ≡ Some (x % 256 / 16) = own_digit (x % 256) t in
         let low : x % 256 % 16 ≡ x % 16 = omega arith in
         let high : x % 256 / 16 ≡ x / 16 % 16 = field_of x 4 4 in
         control_came bs g s ∙ ap (λ (y : ℕ). control_comes c bs (high_digit y)) (sym low) ∙ ap (control_comes c bs) d ∙ ap (λ (y : ℕ). put_digit c y bs) high ∙ put_own c bs
@@ -309,20 +272,23 @@ groups_return (a ∷ b ∷ c ∷ d ∷ []) e p =
     let any = four_return a b c d p in
     record { any = any; whole = λ s. any ∙ sound_comes (a ∷ b ∷ c ∷ d ∷ []) s }
 
-pub payload-get_or : (bs : List Block) (c : ℕ) → get_or (map (λ (b : Block). b.payload) bs) c 0 ≡ payload_at c bs
-payload-get_or [] c = refl
-payload-get_or (b ∷ bs) zero = refl
-payload-get_or (b ∷ bs) (suc c) = payload-get_or bs c
+-- the type of the first control block
+abbrev pub typed : Option Block → Bool
+typed None = true
+typed (Some b) = is_type (b.payload % 256)
+
+typed_first : (bs : List Block) → typed (find (λ (b : Block). is_control b.header) bs) ≡ cond (some_control (headers bs)) (is_type (payload_at (first_control_place (headers bs)) bs % 256)) true
+typed_first [] = refl
+typed_first (b ∷ bs) = elim (cases_Bool (is_control b.header)) [
+  | inl g ↦ rw g
+  | inr g ↦ rw g (typed_first bs)
+]
 
 module _ (bs : List Block) where
   pub bad_unsound : all_good (headers bs) ≡ false → false ≡ sound bs
   unfolding sound
   bad_unsound g = rw g
 
-  pub data_sound : all_good (headers bs) ≡ true → some_control (headers bs) ≡ false → true ≡ sound bs
+  pub typed_sound : all_good (headers bs) ≡ true → (o : Option Block) → o ≡ find (λ (b : Block). is_control b.header) bs → (r : Bool) → r ≡ typed o → r ≡ sound bs
   unfolding sound
-  data_sound g s = rw (g, s)
-
-  pub control_sound : all_good (headers bs) ≡ true → some_control (headers bs) ≡ true → (c : ℕ) → first_control_place (headers bs) ≡ c → is_type (payload_at c bs % 256) ≡ sound bs
-  unfolding sound
-  control_sound g s c f = rw (g, s, f)
+  typed_sound g o f r e = rw g (e ∙ ap typed f ∙ typed_first bs)

@@ -6,10 +6,10 @@ use Rattle.blocks.specs.Bits.{bit, field, nth}
 use Rattle.blocks.specs.Blocks.{second_bit, payload_bits}
 use Rattle.blocks.specs.Groups.{headers, payloads, all_good, some_control, first_control_place, without, group_bits}
 use Rattle.blocks.specs.declared.block.Header.{Header}
-use Rattle.blocks.specs.declared.block.Header.TheVariants.{Zeros, Control, Data, Ones}
 use Rattle.blocks.specs.declared.block.Block.{Block}
 use Rattle.blocks.proofs.Fields.{length-field}
-use Rattle.blocks.proofs.Returned.{length-headers, first_inside}
+use Rattle.blocks.proofs.Returned.{length-headers}
+use Rattle.blocks.proofs.Written.{first_inside, second_small}
 
 abbrev pub Binary : List ℕ → Type 0
 Binary xs = (i : ℕ) → nth xs i < 2
@@ -40,12 +40,6 @@ pub binary_field : (x i n : ℕ) → Binary (field x i n)
 unfolding field
 binary_field x i zero = binary_none
 binary_field x i (suc n) = binary_cons (bit x i) (field x (suc i) n) (omega arith) (binary_field x (suc i) n)
-
-second_small : (h : Header) → second_bit h < 2
-second_small Zeros = omega arith
-second_small Control = omega arith
-second_small Data = omega arith
-second_small Ones = omega arith
 
 binary_flags : (hs : List Header) → Binary (map second_bit hs)
 binary_flags [] = binary_none

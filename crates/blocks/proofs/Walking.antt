@@ -1,49 +1,46 @@
 -- Steps of a reader, and that a walk visits every record.
-use Rattle.std.proofs.Common.{◌≡◌, ℕ, zero, suc, ◌+◌, ◌-◌, ◌<◌, ◌≤◌, true, false, leb, ◌⊎◌, List, [], ◌∷◌, ◌++◌, length, get_or, take, drop, Some, None, Ok, Err, sym, refl, ap, ◌∙◌, append_assoc, append-nil, add-one, arith, length-append, length-drop}
-use Rattle.std.proofs.lemmas.List.{drop_more, drop_all, drop-drop, take_at, drop_at}
+use Rattle.std.proofs.Common.{◌≡◌, ℕ, zero, suc, ◌+◌, ◌-◌, ◌<◌, ◌≤◌, true, false, leb, List, [], ◌∷◌, ◌++◌, length, take, drop, Some, None, Ok, Err, sym, refl, ap, ◌∙◌, append_assoc, append-nil, add-one, arith, length-append}
+use Rattle.std.proofs.lemmas.List.{take_rest, take_at, drop_at}
 use Rattle.std.proofs.lemmas.Bool.{le-leb, lt-leb}
-use Rattle.std.proofs.lemmas.Bool.Decides.{nat_tests}
 use Rattle.blocks.specs.declared.refusal.Refusal.TheVariants.{Length, Kind}
+use Rattle.blocks.specs.declared.block.Header.TheVariants.{Zeros, Control, Data, Ones}
+use Rattle.blocks.specs.declared.walk.Kind.{Kind as RecordKind}
+use Rattle.blocks.specs.declared.walk.Kind.TheVariants.{Block, Note}
 use Rattle.blocks.specs.Records.{Item, data_item, control_item, bad_item, note_item, known, size_of, item_of, look, behind, rest_at}
-use Rattle.blocks.specs.Walk.{bytes_of, bytes, Whole, AllWhole, Visits}
+use Rattle.blocks.specs.Walk.{kind_byte, bytes_of, bytes, Whole, AllWhole, Visits}
 
-module _ (s : List ℕ) (at n : ℕ) (placed : drop at s ≡ rest_at s n) where
-  pub at_end : length s ≤ at → look n (rest_at s n) ≡ Ok None
+pub at_end : (s : List ℕ) (n : ℕ) → rest_at s n ≡ [] → look n (rest_at s n) ≡ Ok None
+unfolding look
+at_end s n e = ap (look n) e
+
+-- record n begins with the kind k
+module _ (s : List ℕ) (n k : ℕ) (rest : List ℕ) (front : rest_at s n ≡ k ∷ rest) where
+  pub unknown : known k ≡ false → look n (rest_at s n) ≡ Err (Kind n)
   unfolding look
-  at_end h = ap (look n) (sym placed ∙ drop_all at s h)
+  unknown e = ap (look n) front ∙ rw e refl
 
-  module _ (inside : at < length s) where
-    front : rest_at s n ≡ get_or s at 0 ∷ drop (at + 1) s
-    front = sym placed ∙ drop_more s at 0 inside
+  pub cut_short : known k ≡ true → length rest < size_of k → look n (rest_at s n) ≡ Err Length
+  unfolding look
+  cut_short e h = let l : leb (size_of k) (length rest) ≡ false = lt-leb _ _ h in ap (look n) front ∙ rw (e, l) refl
 
-    pub unknown : known (get_or s at 0) ≡ false → look n (rest_at s n) ≡ Err (Kind n)
-    unfolding look
-    unknown k = ap (look n) front ∙ rw k refl
+  pub stands : known k ≡ true → size_of k ≤ length rest → look n (rest_at s n) ≡ Ok (Some (n, item_of k (take (size_of k) rest)))
+  unfolding look
+  stands e h = let l : leb (size_of k) (length rest) ≡ true = le-leb _ _ h in ap (look n) front ∙ rw (e, l) refl
 
-    pub cut_short : known (get_or s at 0) ≡ true → length s - at - 1 < size_of (get_or s at 0) → look n (rest_at s n) ≡ Err Length
-    unfolding look
-    cut_short k h =
-        let m : length (drop (at + 1) s) < size_of (get_or s at 0) = rw length-drop (omega arith) in
-        let e : leb (size_of (get_or s at 0)) (length (drop (at + 1) s)) ≡ false = lt-leb _ _ m in
-        ap (look n) front ∙ rw (k, e) refl
+  pub goes_on : drop (size_of k) rest ≡ rest_at s (n + 1)
+  unfolding rest_at
+  goes_on = sym (rw add-one (ap behind front))
 
-    pub stands : known (get_or s at 0) ≡ true → size_of (get_or s at 0) ≤ length s - at - 1 → look n (rest_at s n) ≡ Ok (Some (n, item_of (get_or s at 0) (take (size_of (get_or s at 0)) (drop (at + 1) s))))
-    unfolding look
-    stands k h =
-        let m : size_of (get_or s at 0) ≤ length (drop (at + 1) s) = rw length-drop (omega arith) in
-        let e : leb (size_of (get_or s at 0)) (length (drop (at + 1) s)) ≡ true = le-leb _ _ m in
-        ap (look n) front ∙ rw (k, e) refl
+-- what stands from byte `at` on
+pub front_of : (s : List ℕ) (at n : ℕ) (xs : List ℕ) → drop at s ≡ rest_at s n → take (length s - at) (drop at s) ≡ xs → rest_at s n ≡ xs
+front_of s at n xs placed e = sym placed ∙ sym (take_rest s at) ∙ e
 
-    pub goes_on : (size : ℕ) → size ≡ size_of (get_or s at 0) → drop (at + 1 + size) s ≡ rest_at s (n + 1)
-    unfolding rest_at
-    goes_on size e =
-        sym (drop-drop size (at + 1) s) ∙ ap (λ (k : ℕ). drop k (drop (at + 1) s)) e ∙ ap behind (sym front) ∙ rw add-one refl
-
-pub known_kind : (k : ℕ) → ((3 < k) × (k ≡ 16)) ⊎ (k ≤ 3) → known k ≡ true
-known_kind k h = grind (arith, nat_tests)
-
-pub unknown_kind : (k : ℕ) → 3 < k → (k ≡ 16 → ⊥) → known k ≡ false
-unknown_kind k h m = grind (arith, nat_tests)
+pub kind_known : (k : ℕ) (kind : RecordKind) → kind_byte kind ≡ k → known k ≡ true
+kind_known k (Block Zeros) e = rw (← e)
+kind_known k (Block Control) e = rw (← e)
+kind_known k (Block Data) e = rw (← e)
+kind_known k (Block Ones) e = rw (← e)
+kind_known k Note e = rw (← e)
 
 -- what is left behind n records, from the front
 behind_first : (xs : List ℕ) (n : ℕ) → rest_at xs (suc n) ≡ rest_at (behind xs) n

@@ -1,6 +1,6 @@
 -- Scrambling by words of 64 bits: output y and memory m as one number, the memory's 58 bits lowest.
 use Rattle.std.proofs.Common.{◌≡◌, ℕ, zero, suc, ◌+◌, ◌-◌, ◌*◌, ◌/◌, ◌%◌, ◌^◌, ◌<◌, ◌≤◌, Bool, true, false, List, [], ◌∷◌, ◌++◌, sym, refl, ap, ◌∙◌, subst, ap₂, inl, inr, append-nil, add-zero, add-suc, mul_assoc, mul_comm, add-mul, suc-add, zero-add, div-one, one-add, arith}
-use native.Mathlib.Nat.{div-eq_of_lt, zero-div, mul-mod_left, mul-add-mod_self_right}
+use native.Mathlib.Nat.{mul-mod_left, mul-add-mod_self_right}
 use lib.Bits.{bit_xor, xor_assoc, xor_comm, xor_zero_r, xor_shr, xor_mod, xor_shifted, xor_block}
 use Rattle.std.proofs.lemmas.Nat.{shr-shr, pow-add, pow_pos, shl-shr, mod_low, shr_high, div-add-mod'}
 use Rattle.std.specs.Int.{reverse_bits_onto}
@@ -18,12 +18,6 @@ bit-bit_xor a b i = ap (λ (y : ℕ). y % 2) (xor_shr a b i) ∙ xor_mod (a / 2 
 
 pub bit_shr : (x k i : ℕ) → bit (x / 2 ^ k) i ≡ bit x (k + i)
 bit_shr x k i = ap (λ (y : ℕ). y % 2) (shr-shr x k i)
-
-bit_above : (x n i : ℕ) → x < 2 ^ n → n ≤ i → bit x i ≡ 0
-bit_above x n i h l =
-    let e : i ≡ n + (i - n) = omega arith in
-    ap (λ (k : ℕ). x / 2 ^ k % 2) e
-    ∙ ap (λ (y : ℕ). y % 2) (sym (shr-shr x n (i - n)) ∙ ap (λ (y : ℕ). y / 2 ^ (i - n)) (div-eq_of_lt h) ∙ zero-div (2 ^ (i - n)))
 
 -- memory and output as one number
 abbrev pub history : ℕ → ℕ → ℕ

@@ -1,12 +1,15 @@
--- The three cases of writing a group.
-use Rattle.std.proofs.Common.{◌≡◌, ℕ, ◌+◌, ◌*◌, ◌^◌, ◌<◌, true, false, List, [], ◌∷◌, ◌++◌, map, length, get_or, sym, refl, ap, ◌∙◌, ap₂, arith}
+-- What the functions that write a group give, and the three cases of writing one.
+use Rattle.std.proofs.Common.{◌≡◌, ℕ, zero, suc, ◌+◌, ◌*◌, ◌<◌, true, false, cond, List, [], ◌∷◌, ◌++◌, map, length, get_or, Some, None, position, sym, refl, ap, ◌∙◌, ap₂, inl, inr, ltb, arith}
+use Rattle.std.specs.List.{list_all, position_or_len}
 use Rattle.std.proofs.lemmas.List.{take_at, drop_at}
+use Rattle.std.proofs.lemmas.Bool.{cases_Bool, lt-ltb, le-ltb}
 use Rattle.blocks.specs.Bits.{field, number}
-use Rattle.blocks.specs.Blocks.{second_bit}
+use Rattle.blocks.specs.Blocks.{good, is_control, second_bit}
 use Rattle.blocks.specs.Groups.{headers, payloads, all_good, some_control, first_control_place, without, group_bits, blocks_of, words}
 use Rattle.blocks.specs.declared.block.Block.{Block}
 use Rattle.blocks.specs.declared.block.Header.{Header}
-use Rattle.blocks.proofs.Fields.{length-field, number-whole}
+use Rattle.blocks.specs.declared.block.Header.TheVariants.{Zeros, Control, Data, Ones}
+use Rattle.blocks.proofs.Fields.{length-field, field_cons}
 
 pub four : {A : Type 0} (xs : List A) (d : A) → length xs ≡ 4 → xs ≡ get_or xs 0 d ∷ get_or xs 1 d ∷ get_or xs 2 d ∷ get_or xs 3 d ∷ []
 four [] d e = absurd (omega arith)
@@ -15,6 +18,83 @@ four (a ∷ b ∷ []) d e = absurd (omega arith)
 four (a ∷ b ∷ c ∷ []) d e = absurd (omega arith)
 four (a ∷ b ∷ c ∷ x ∷ []) d e = refl
 four (a ∷ b ∷ c ∷ x ∷ y ∷ xs) d e = absurd (omega arith)
+
+pub each_of_four : (P : ℕ → Type 0) → P 0 → P 1 → P 2 → P 3 → (k : ℕ) → k < 4 → P k
+each_of_four P a b c d zero l = a
+each_of_four P a b c d (suc zero) l = b
+each_of_four P a b c d (suc (suc zero)) l = c
+each_of_four P a b c d (suc (suc (suc zero))) l = d
+each_of_four P a b c d (suc (suc (suc (suc k)))) l = absurd (omega arith)
+
+-- an array's `map`, element by element
+pub mapped : {A B : Type 0} (f : A → B) (xs : List A) (ys : List B) (d : A) (e : B) → length ys ≡ length xs → ((k : ℕ) → k < length xs → get_or ys k e ≡ f (get_or xs k d)) → ys ≡ map f xs
+mapped f [] [] d e n g = refl
+mapped f [] (y ∷ ys) d e n g = absurd (omega arith)
+mapped f (x ∷ xs) [] d e n g = absurd (omega arith)
+mapped {A} {B} f (x ∷ xs) (y ∷ ys) d e n g = ap₂ (λ (z : B) (zs : List B). z ∷ zs) (g 0 (omega arith)) (mapped f xs ys d e (omega arith) (λ k l. g (suc k) (omega arith)))
+
+pub headers_map : (bs : List Block) → map (λ (b : Block). b.header) bs ≡ headers bs
+headers_map [] = refl
+headers_map (b ∷ bs) = ap (λ (l : List Header). b.header ∷ l) (headers_map bs)
+
+pub payloads_map : (bs : List Block) → words (map (λ (b : Block). b.payload) bs) ≡ payloads bs
+payloads_map [] = refl
+payloads_map (b ∷ bs) = ap (λ (l : List ℕ). field b.payload 0 64 ++ l) (payloads_map bs)
+
+pub all_good_of : (bs : List Block) → list_all (λ (b : Block). good b.header) bs ≡ all_good (headers bs)
+all_good_of [] = refl
+all_good_of (b ∷ bs) = elim (cases_Bool (good b.header)) [
+  | inl g ↦ rw g (all_good_of bs)
+  | inr g ↦ rw g
+]
+
+-- the first control block by its place
+place_of : (hs : List Header) → position_or_len is_control hs ≡ first_control_place hs
+place_of [] = refl
+place_of (Zeros ∷ hs) = omega (arith, place_of hs)
+place_of (Control ∷ hs) = refl
+place_of (Data ∷ hs) = omega (arith, place_of hs)
+place_of (Ones ∷ hs) = omega (arith, place_of hs)
+
+pub first_inside : (hs : List Header) → some_control hs ≡ true → first_control_place hs < length hs
+first_inside [] s = cc
+first_inside (Zeros ∷ hs) s = omega (arith, first_inside hs s)
+first_inside (Control ∷ hs) s = omega arith
+first_inside (Data ∷ hs) s = omega (arith, first_inside hs s)
+first_inside (Ones ∷ hs) s = omega (arith, first_inside hs s)
+
+no_place : (hs : List Header) → some_control hs ≡ false → first_control_place hs ≡ length hs
+no_place [] s = refl
+no_place (Zeros ∷ hs) s = ap suc (no_place hs s)
+no_place (Control ∷ hs) s = cc
+no_place (Data ∷ hs) s = ap suc (no_place hs s)
+no_place (Ones ∷ hs) s = ap suc (no_place hs s)
+
+position_of : (hs : List Header) → position is_control hs ≡ cond (some_control hs) (Some (first_control_place hs)) None
+position_of hs = elim (cases_Bool (some_control hs)) [
+  | inl s ↦
+      let t : ltb (first_control_place hs) (length hs) ≡ true = lt-ltb _ _ (first_inside hs s) in
+      rw (place_of hs, s, t)
+  | inr s ↦
+      let t : ltb (first_control_place hs) (length hs) ≡ false = le-ltb _ _ (omega (arith, no_place hs s)) in
+      rw (place_of hs, s, t)
+]
+
+pub none_found : (hs : List Header) → None ≡ position is_control hs → some_control hs ≡ false
+none_found hs e = elim (cases_Bool (some_control hs)) [
+  | inl s ↦ let f = e ∙ position_of hs in let g = rw s at f in cc
+  | inr s ↦ s
+]
+
+pub place_found : (hs : List Header) (at : ℕ) → Some at ≡ position is_control hs → (some_control hs ≡ true) × (first_control_place hs ≡ at) × (at < length hs)
+place_found hs at e = elim (cases_Bool (some_control hs)) [
+  | inl s ↦
+      let f = e ∙ position_of hs in
+      let g = rw s at f in
+      let p : first_control_place hs ≡ at = cc in
+      (s, p, omega (arith, first_inside hs s))
+  | inr s ↦ let f = e ∙ position_of hs in let g = rw s at f in cc
+]
 
 module _ (bs : List Block) (parts : List ℕ) where
   pub bad_group : all_good (headers bs) ≡ false → parts ≡ field 15 0 4 ++ without 4 (payloads bs) → 0 ∷ parts ≡ group_bits bs
@@ -25,22 +105,37 @@ module _ (bs : List Block) (parts : List ℕ) where
   unfolding group_bits
   data_group g s e = rw (g, s) (ap (λ (l : List ℕ). 1 ∷ l) e)
 
-  pub control_group : (flags at : ℕ) → all_good (headers bs) ≡ true → some_control (headers bs) ≡ true → first_control_place (headers bs) ≡ at →
-      field flags 0 4 ≡ map second_bit (headers bs) → parts ≡ field flags 0 4 ++ without (64 * at + 4) (payloads bs) → 0 ∷ parts ≡ group_bits bs
+  pub control_group : (at : ℕ) → all_good (headers bs) ≡ true → some_control (headers bs) ≡ true → first_control_place (headers bs) ≡ at →
+      parts ≡ map second_bit (headers bs) ++ without (64 * at + 4) (payloads bs) → 0 ∷ parts ≡ group_bits bs
   unfolding group_bits
-  control_group flags at g s f t e = rw (g, s, f) (ap (λ (l : List ℕ). 0 ∷ l) (e ∙ ap (λ (l : List ℕ). l ++ without (64 * at + 4) (payloads bs)) t))
+  control_group at g s f e = rw (g, s, f) (ap (λ (l : List ℕ). 0 ∷ l) e)
 
--- a block from the first of the words
-more_of_words : (h : Header) (hs : List Header) (x : ℕ) (rest : List ℕ) → x < 2 ^ 64 → blocks_of (h ∷ hs) (field x 0 64 ++ rest) ≡ record { header = h; payload = x } ∷ blocks_of hs rest
-more_of_words h hs x rest l =
-    ap₂ (λ (n : ℕ) (s : List ℕ). record { header = h; payload = n } ∷ blocks_of hs s)
-    (ap number (take_at (field x 0 64) rest 64 (length-field x 0 64)) ∙ number-whole x 64 l)
-    (drop_at (field x 0 64) rest 64 (length-field x 0 64))
+pub second_small : (h : Header) → second_bit h < 2
+second_small Zeros = omega arith
+second_small Control = omega arith
+second_small Data = omega arith
+second_small Ones = omega arith
 
-pub made_of_words : (h i j k : Header) (w x y z : ℕ) → w < 2 ^ 64 → x < 2 ^ 64 → y < 2 ^ 64 → z < 2 ^ 64 →
-    record { header = h; payload = w } ∷ record { header = i; payload = x } ∷ record { header = j; payload = y } ∷ record { header = k; payload = z } ∷ [] ≡ blocks_of (h ∷ i ∷ j ∷ k ∷ []) (words (w ∷ x ∷ y ∷ z ∷ []))
-made_of_words h i j k w x y z lw lx ly lz =
-    sym (more_of_words h (i ∷ j ∷ k ∷ []) w (words (x ∷ y ∷ z ∷ [])) lw
-    ∙ ap (λ (l : List Block). record { header = h; payload = w } ∷ l) (more_of_words i (j ∷ k ∷ []) x (words (y ∷ z ∷ [])) lx
-    ∙ ap (λ (l : List Block). record { header = i; payload = x } ∷ l) (more_of_words j (k ∷ []) y (words (z ∷ [])) ly
-    ∙ ap (λ (l : List Block). record { header = j; payload = y } ∷ l) (more_of_words k [] z [] lz))))
+-- flags by their weights, and their bits
+pub weighed : (a b c d : ℕ) → a + 2 * b + 4 * c + 8 * d ≡ number (a ∷ b ∷ c ∷ d ∷ [])
+unfolding number
+weighed a b c d = omega arith
+
+pub flag_bits : (hs : List Header) → field (number (map second_bit hs)) 0 (length hs) ≡ map second_bit hs
+unfolding field number
+flag_bits [] = refl
+flag_bits (h ∷ hs) = field_cons (second_bit h) (number (map second_bit hs)) (length hs) (second_small h) ∙ ap (λ (l : List ℕ). second_bit h ∷ l) (flag_bits hs)
+
+-- block k of headers and payloads
+abbrev pub Joined : List Header → List ℕ → List Block → ℕ → Type 0
+Joined hs ps bs k = get_or bs k (record { header = Zeros; payload = 0 }) ≡ record { header = get_or hs k Zeros; payload = number (field (get_or ps k 0) 0 64) }
+
+pub joined_words : (hs : List Header) (ps : List ℕ) (bs : List Block) → length ps ≡ length hs → length bs ≡ length hs → ((k : ℕ) → k < length hs → Joined hs ps bs k) → bs ≡ blocks_of hs (words ps)
+joined_words [] ps [] m n f = refl
+joined_words [] ps (b ∷ bs) m n f = absurd (omega arith)
+joined_words (h ∷ hs) [] bs m n f = absurd (omega arith)
+joined_words (h ∷ hs) (p ∷ ps) [] m n f = absurd (omega arith)
+joined_words (h ∷ hs) (p ∷ ps) (b ∷ bs) m n f =
+    let l = length-field p 0 64 in
+    ap₂ (λ (c : Block) (cs : List Block). c ∷ cs) (f 0 (omega arith)) (joined_words hs ps bs (omega arith) (omega arith) (λ k i. f (suc k) (omega arith)))
+    ∙ sym (ap₂ (λ (x y : List ℕ). record { header = h; payload = number x } ∷ blocks_of hs y) (take_at (field p 0 64) (words ps) 64 l) (drop_at (field p 0 64) (words ps) 64 l))

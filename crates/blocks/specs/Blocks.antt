@@ -1,9 +1,10 @@
 -- Blocks: two header bits and 64 payload bits. Assumes nothing.
-use Rattle.std.specs.Prelude.{ℕ, zero, suc, ◌+◌, ◌*◌, Bool, true, false, cond, List, [], ◌∷◌, ◌++◌, take, drop, ◌==◌, slice_index}
+use Rattle.std.specs.Prelude.{◌≡◌, ℕ, zero, suc, ◌+◌, ◌*◌, ◌<◌, Bool, true, false, cond, List, [], ◌∷◌, ◌++◌, take, drop, ◌==◌, Result, MatchResult, slice_index}
 use Rattle.blocks.specs.Bits.{field, number, octet_bits, octets}
 use Rattle.blocks.specs.declared.block.Header.{Header}
 use Rattle.blocks.specs.declared.block.Header.TheVariants.{Zeros, Control, Data, Ones}
 use Rattle.blocks.specs.declared.block.Block.{Block}
+use Rattle.blocks.specs.declared.block.UnknownKind.{UnknownKind}
 
 -- the header bits as sent
 abbrev pub first_bit : Header → ℕ
@@ -41,11 +42,19 @@ kind_of h = first_bit h + 2 * second_bit h
 abbrev pub header_of : ℕ → Header
 header_of k = cond (k == 0) Zeros (cond (k == 1) Control (cond (k == 2) Data Ones))
 
+-- the result is the header with this kind, or an error with a kind that no header has
+abbrev pub Decodes : ℕ → Result Header UnknownKind → Type 0
+Decodes kind r = MatchResult r (λ h. kind_of h ≡ kind) (λ e. (e.0 ≡ kind) × (3 < kind))
+
 abbrev pub record_of : Block → List ℕ
 record_of b = kind_of b.header ∷ octets 8 (payload_bits b)
 
 abbrev pub block_in : List ℕ → Block
 block_in xs = record { header = header_of (slice_index xs 0); payload = number (octet_bits (take 8 (drop 1 xs))) }
+
+-- the result is the block of this record, or an error with its kind, which no header has
+abbrev pub DecodesRecord : List ℕ → Result Block UnknownKind → Type 0
+DecodesRecord xs r = MatchResult r (λ b. (slice_index xs 0 < 4) × (b ≡ block_in xs)) (λ e. (e.0 ≡ slice_index xs 0) × (3 < slice_index xs 0))
 
 -- records one after another, and the first n blocks of them
 unfoldable pub records_of : List Block → List ℕ

@@ -1,5 +1,5 @@
 -- The scrambled stream and its reverse. Assumes nothing.
-use Rattle.std.specs.Prelude.{◌≡◌, ℕ, zero, suc, ◌+◌, ◌-◌, ◌≤◌, List, length, bit_xor}
+use Rattle.std.specs.Prelude.{◌≡◌, ℕ, zero, suc, ◌+◌, ◌-◌, ◌≤◌, List, ◌++◌, length, bit_xor}
 use Rattle.blocks.specs.Bits.{bit, table, nth}
 
 -- The bit that went out k + 1 places before bit n of a stream xs; `past` has those before the first. Each bit goes out
@@ -35,6 +35,11 @@ descrambled_bits m ys = table (length ys) (descrambled (nth m) (nth ys))
 
 unfoldable pub descrambler_after : List ℕ → List ℕ → List ℕ
 descrambler_after m ys = table 58 (received (nth m) (nth ys) (length ys))
+
+-- Bits on a memory give `run`, and leave the memory `after`: those of a run in two parts are those of its parts, one after the other.
+pub record InParts (run after : List ℕ → List ℕ → List ℕ) : Type 0 where
+  pub gives : (m xs ys : List ℕ) → run m (xs ++ ys) ≡ run m xs ++ run (after m xs) ys
+  pub leaves : (m xs ys : List ℕ) → after m (xs ++ ys) ≡ after (after m xs) ys
 
 -- the memory held as a number, the newest bit highest
 abbrev pub memory_in : ℕ → List ℕ

@@ -1,15 +1,30 @@
 -- What a reader of records hands out, and that a walk visits every record. Assumes nothing.
-use Rattle.std.specs.Prelude.{◌≡◌, ℕ, cond, List, [], ◌∷◌, ◌++◌, length, Some, None, Ok, Err, Option, Result}
+use Rattle.std.specs.Prelude.{◌≡◌, ℕ, true, false, cond, MatchResult, List, [], ◌∷◌, ◌++◌, length, Some, None, Ok, Err, Option, Result}
 use Rattle.blocks.specs.declared.refusal.Refusal.{Refusal}
 use Rattle.blocks.specs.declared.record.Record.{Record}
 use Rattle.blocks.specs.declared.record.Record.TheVariants.{Data, Control, BadHeader, Note}
-use Rattle.blocks.specs.Records.{Item, data_item, control_item, bad_item, note_item, look, rest_at}
+use Rattle.blocks.specs.declared.record.BadHeader.TheVariants.{Zeros, Ones}
+use Rattle.blocks.specs.declared.block.UnknownKind.{UnknownKind}
+use Rattle.blocks.specs.declared.walk.Kind.{Kind}
+use Rattle.blocks.specs.declared.walk.Kind.TheVariants.{Block}
+use Rattle.blocks.specs.Blocks.{kind_of}
+use Rattle.blocks.specs.Records.{Item, data_item, control_item, bad_item, note_item, known, look, rest_at}
 
 abbrev pub item : Record → Item
 item (Data body) = data_item body.now
 item (Control body) = control_item body.now
-item (BadHeader ones body) = bad_item ones body.now
+item (BadHeader Ones body) = bad_item true body.now
+item (BadHeader Zeros body) = bad_item false body.now
 item (Note body) = note_item body.now
+
+-- the byte that stands for a kind
+abbrev pub kind_byte : Kind → ℕ
+kind_byte (Block h) = kind_of h
+kind_byte _ = 16
+
+-- the result is the kind with this byte, or an error with a byte that no kind has
+abbrev pub DecodesKind : ℕ → Result Kind UnknownKind → Type 0
+DecodesKind k r = MatchResult r (λ kind. kind_byte kind ≡ k) (λ e. (e.0 ≡ k) × (known k ≡ false))
 
 -- an answer of a reader, each record by its bytes
 abbrev pub shown : Result (Option (ℕ × Record)) Refusal → Result (Option (ℕ × Item)) Refusal

@@ -1,11 +1,13 @@
 // Groups of 257 bits: four blocks written, and read back.
-ghost use Rattle.std.specs.Prelude.{◌≡◌, ◌+◌, ◌*◌, ◌/◌, ◌%◌, ◌^◌, ◌<◌, true, false, [], ◌∷◌, ◌++◌, map, take, drop, IfSome, MatchOption, slice_index};
+ghost use Rattle.std.specs.Prelude.{◌≡◌, ◌+◌, ◌*◌, ◌/◌, ◌%◌, ◌^◌, ◌<◌, ◌++◌, map, drop, position};
 ghost use Rattle.blocks.specs.Bits.{field, number};
-ghost use Rattle.blocks.specs.Blocks.{good, second_bit, is_control};
-ghost use Rattle.blocks.specs.Groups.{all_good, some_control, first_control_place, some_zero, first_zero_place, without, with_digit_at, high_digit, words, bits_of, group_bits, read_back, flagged, blocks_of, control_back};
+ghost use Rattle.blocks.specs.Blocks.{is_control, second_bit};
+ghost use Rattle.blocks.specs.Groups.{headers, payloads, all_good, without, with_digit_at, high_digit, words, bits_of, group_bits, read_back, flagged, blocks_of};
 ghost use Rattle.blocks.specs.Sound.{is_type, sound};
 
 use crate::block::{Block, Header};
+use std::array;
+use std::cmp::Ordering;
 
 // Bit 0, then 256 bits in four parts, the lowest bit of each first.
 #[derive(Clone, Copy, PartialEq, Eq, Debug)]
@@ -14,47 +16,35 @@ pub struct Group {
     pub parts: [u64; 4],
 }
 
-fn is_good(h: Header) -> bool
-    ensures { result ≡ good h }
+fn headers_of(blocks: [Block; 4]) -> [Header; 4]
+    ensures { result ≡ headers blocks }
 {
-    match h {
-        Header::Control | Header::Data => true,
-        Header::Zeros | Header::Ones => false,
-    }
+    blocks.map(|b| b.header)
 }
 
-fn are_good(a: Header, b: Header, c: Header, d: Header) -> bool
-    ensures { result ≡ all_good (a ∷ b ∷ c ∷ d ∷ []) }
+fn payloads_of(blocks: [Block; 4]) -> [u64; 4]
+    ensures { words result ≡ payloads blocks }
 {
-    is_good(a) && is_good(b) && is_good(c) && is_good(d)
+    blocks.map(|b| b.payload)
 }
 
-fn is_control(h: Header) -> bool
-    ensures { result ≡ is_control h }
+// Whether each header has one 0 and one 1.
+fn are_good(blocks: &[Block; 4]) -> bool
+    ensures { result ≡ all_good (headers blocks.now) }
 {
-    match h {
-        Header::Control => true,
-        Header::Zeros | Header::Data | Header::Ones => false,
-    }
+    blocks
+        .iter()
+        .all(|b| matches!(b.header, Header::Control | Header::Data))
 }
 
 // The place of the first control block.
-fn first_control(a: Header, b: Header, c: Header, d: Header) -> Option<usize>
-    ensures { MatchOption result (some_control (a ∷ b ∷ c ∷ d ∷ []) ≡ false) (λ at. (some_control (a ∷ b ∷ c ∷ d ∷ []) ≡ true) × (first_control_place (a ∷ b ∷ c ∷ d ∷ []) ≡ at) × (at < 4)) }
+fn first_control(headers: &[Header; 4]) -> Option<usize>
+    ensures { result ≡ position is_control headers.now }
 {
-    if is_control(a) {
-        Some(0)
-    } else if is_control(b) {
-        Some(1)
-    } else if is_control(c) {
-        Some(2)
-    } else if is_control(d) {
-        Some(3)
-    } else {
-        None
-    }
+    headers.iter().position(|&h| h == Header::Control)
 }
 
+// By a match: the discriminants of an enum are no header bits.
 fn flag(h: Header) -> u64
     ensures value { result ≡ second_bit h }
     ensures bound { result < 2 }
@@ -66,151 +56,83 @@ fn flag(h: Header) -> u64
 }
 
 // The second header bits, the first block's lowest.
-fn flags(a: Header, b: Header, c: Header, d: Header) -> u64
-    ensures value { field result 0 4 ≡ map second_bit (a ∷ b ∷ c ∷ d ∷ []) }
-    ensures bound { result < 16 }
+fn flags(headers: [Header; 4]) -> u64
+    ensures { result ≡ number (map second_bit headers) }
 {
-    flag(a) + 2 * flag(b) + 4 * flag(c) + 8 * flag(d)
+    // By weights: a fold over the headers from the last on would be no plainer.
+    let [a, b, c, d] = headers.map(flag);
+    a + 2 * b + 4 * c + 8 * d
 }
 
-// A part before the one that loses its digit: four bits carried in, then the payload's first sixty.
-fn carried(carry: u64, x: u64) -> u64
-    requires { carry < 16 }
-    ensures { field result 0 64 ≡ field carry 0 4 ++ field x 0 60 }
+// Part i of a group, where payload `at` loses its bits 4 to 7. The last four bits of `before`, the word in front of payload x,
+// come first.
+#[tactic(auto, using(crate::proofs::Parts::carried_bits, crate::proofs::Parts::shortened_bits))]
+fn part(i: usize, at: usize, before: u64, x: u64) -> u64
+    ensures in_front { i < at → field result 0 64 ≡ field before 60 4 ++ field x 0 60 }
+    ensures shortened { i ≡ at → field result 0 64 ≡ field before 60 4 ++ (field x 0 4 ++ field x 8 56) }
+    ensures behind { at < i → result ≡ x }
 {
-    (x << 4) + carry
-}
-
-// The part that loses its digit, bits 4 to 7 of the payload.
-fn shortened(carry: u64, x: u64) -> u64
-    requires { carry < 16 }
-    ensures { field result 0 64 ≡ field carry 0 4 ++ (field x 0 4 ++ field x 8 56) }
-{
-    x / 256 * 256 + x % 16 * 16 + carry
+    match i.cmp(&at) {
+        Ordering::Less => (x << 4) + (before >> 60),
+        Ordering::Equal => x / 256 * 256 + x % 16 * 16 + (before >> 60),
+        Ordering::Greater => x,
+    }
 }
 
 // Four flags and the payloads, without the digit of payload `at`.
-fn without_digit(flags: u64, at: usize, a: u64, b: u64, c: u64, d: u64) -> [u64; 4]
-    requires { (flags < 16) × (at < 4) }
-    ensures { words result ≡ field flags 0 4 ++ without (64 * at + 4) (words (a ∷ b ∷ c ∷ d ∷ [])) }
+fn without_digit(flags: u64, at: usize, payloads: [u64; 4]) -> [u64; 4]
+    requires { at < 4 }
+    ensures { words result ≡ field flags 0 4 ++ without (64 * at + 4) (words payloads) }
 {
-    match at {
-        0 => [shortened(flags, a), b, c, d],
-        1 => [carried(flags, a), shortened(a >> 60, b), c, d],
-        2 => [
-            carried(flags, a),
-            carried(a >> 60, b),
-            shortened(b >> 60, c),
-            d,
-        ],
-        _ => [
-            carried(flags, a),
-            carried(a >> 60, b),
-            carried(b >> 60, c),
-            shortened(c >> 60, d),
-        ],
-    }
+    let [a, b, c, _] = payloads;
+    let before = [flags << 60, a, b, c];
+    array::from_fn(|i| part(i, at, before[i], payloads[i]))
 }
+
+// The types of control blocks.
+const TYPES: [u64; 11] = [
+    0x1E, 0x78, 0x4B, 0x87, 0x99, 0xAA, 0xB4, 0xCC, 0xD2, 0xE1, 0xFF,
+];
 
 // The high digit of the type that has this low digit.
 fn high_digit(low: u64) -> Option<u64>
-    ensures value { result ≡ high_digit low }
-    ensures bound { IfSome result (λ d. d < 16) }
+    ensures { result ≡ high_digit low }
 {
-    match low {
-        0xE => Some(0x1),
-        0x8 => Some(0x7),
-        0xB => Some(0x4),
-        0x7 => Some(0x8),
-        0x9 => Some(0x9),
-        0xA => Some(0xA),
-        0x4 => Some(0xB),
-        0xC => Some(0xC),
-        0x2 => Some(0xD),
-        0x1 => Some(0xE),
-        0xF => Some(0xF),
-        _ => None,
-    }
+    TYPES.iter().find(|&t| t % 16 == low).map(|&t| t / 16)
 }
 
-fn bit(x: u64, i: u32) -> u64
-    requires { i < 64 }
-    ensures { result ≡ x / 2 ^ i % 2 }
-{
-    (x >> i) % 2
-}
-
-// The place of the first flag that is 0.
-fn first_zero(flags: u64) -> Option<usize>
-    ensures { MatchOption result (some_zero (field flags 0 4) ≡ false) (λ at. (some_zero (field flags 0 4) ≡ true) × (first_zero_place (field flags 0 4) ≡ at) × (at < 4)) }
-{
-    if bit(flags, 0) == 0 {
-        Some(0)
-    } else if bit(flags, 1) == 0 {
-        Some(1)
-    } else if bit(flags, 2) == 0 {
-        Some(2)
-    } else if bit(flags, 3) == 0 {
-        Some(3)
-    } else {
-        None
-    }
-}
-
-// The payload in front of the one with the digit: sixty bits of its part, and four of the next.
-fn uncarried(x: u64, next: u64) -> u64
-    ensures { field result 0 64 ≡ field x 4 60 ++ field next 0 4 }
-{
-    x / 16 + ((next % 16) << 60)
-}
-
-// The payload with the digit put back.
-fn restored(x: u64, digit: u64) -> u64
+// Payload i of a group, where payload `at` gets the digit as its bits 4 to 7. The first four bits of `next`, the part behind
+// part x, come last.
+#[tactic(auto, using(crate::proofs::Parts::uncarried_bits, crate::proofs::Parts::restored_bits))]
+fn payload(i: usize, at: usize, digit: u64, x: u64, next: u64) -> u64
     requires { digit < 16 }
-    ensures { field result 0 64 ≡ field x 4 4 ++ (field digit 0 4 ++ field x 8 56) }
+    ensures in_front { i < at → field result 0 64 ≡ field x 4 60 ++ field next 0 4 }
+    ensures restored { i ≡ at → field result 0 64 ≡ field x 4 4 ++ (field digit 0 4 ++ field x 8 56) }
+    ensures behind { at < i → result ≡ x }
 {
-    x / 256 * 256 + digit * 16 + x / 16 % 16
+    match i.cmp(&at) {
+        Ordering::Less => x / 16 + ((next % 16) << 60),
+        Ordering::Equal => x / 256 * 256 + digit * 16 + x / 16 % 16,
+        Ordering::Greater => x,
+    }
 }
 
 // The payloads behind the flags, with the digit of payload `at` put back.
-fn with_digit(digit: u64, at: usize, a: u64, b: u64, c: u64, d: u64) -> [u64; 4]
+fn with_digit(digit: u64, at: usize, parts: [u64; 4]) -> [u64; 4]
     requires { (digit < 16) × (at < 4) }
-    ensures { words result ≡ with_digit_at (64 * at + 4) digit (drop 4 (words (a ∷ b ∷ c ∷ d ∷ []))) }
+    ensures { words result ≡ with_digit_at (64 * at + 4) digit (drop 4 (words parts)) }
 {
-    match at {
-        0 => [restored(a, digit), b, c, d],
-        1 => [uncarried(a, b), restored(b, digit), c, d],
-        2 => [uncarried(a, b), uncarried(b, c), restored(c, digit), d],
-        _ => [
-            uncarried(a, b),
-            uncarried(b, c),
-            uncarried(c, d),
-            restored(d, digit),
-        ],
-    }
+    let [_, b, c, d] = parts;
+    let next = [b, c, d, 0];
+    array::from_fn(|i| payload(i, at, digit, parts[i], next[i]))
 }
 
 // Whether the first octet of a payload is a listed type.
+#[tactic(auto, unfolding(crate::specs::Sound::is_type, crate::specs::Groups::types))]
 fn has_type(payload: u64) -> bool
     ensures { result ≡ is_type (payload % 256) }
 {
-    let octet = payload % 256;
-    match high_digit(octet % 16) {
-        Some(digit) => digit == octet / 16,
-        None => false,
-    }
-}
-
-fn payload_at(at: usize, a: u64, b: u64, c: u64, d: u64) -> u64
-    requires { at < 4 }
-    ensures { result ≡ slice_index (a ∷ b ∷ c ∷ d ∷ []) at }
-{
-    match at {
-        0 => a,
-        1 => b,
-        2 => c,
-        _ => d,
-    }
+    TYPES.contains(&(payload % 256))
 }
 
 // Whether a group of these blocks comes back as it was: all headers are good, and the first control block, if any, has a
@@ -218,84 +140,35 @@ fn payload_at(at: usize, a: u64, b: u64, c: u64, d: u64) -> u64
 pub fn are_sound(blocks: [Block; 4]) -> bool
     ensures { result ≡ sound blocks }
 {
-    let [a, b, c, d] = blocks;
-    if !are_good(a.header, b.header, c.header, d.header) {
-        return false;
-    }
-    match first_control(a.header, b.header, c.header, d.header) {
-        Some(at) => has_type(payload_at(at, a.payload, b.payload, c.payload, d.payload)),
-        None => true,
-    }
+    are_good(&blocks)
+        && blocks
+            .iter()
+            .find(|b| b.header == Header::Control)
+            .is_none_or(|b| has_type(b.payload))
 }
 
-fn flagged(flags: u64, i: u32) -> Header
-    requires { i < 64 }
-    ensures { result ≡ flagged (flags / 2 ^ i % 2) }
+// Flag 0 is a control block, flag 1 a data block.
+fn headers(flags: u64) -> [Header; 4]
+    ensures { result ≡ map flagged (field flags 0 4) }
 {
-    if bit(flags, i) == 0 {
+    array::from_fn(|i| if (flags >> i) % 2 == 0 {
         Header::Control
     } else {
         Header::Data
-    }
+    })
+}
+
+// A block from its 64 payload bits.
+fn block(header: Header, payload: u64) -> Block
+    ensures { result ≡ record { header = header; payload = number (field payload 0 64) } }
+{
+    Block { header, payload }
 }
 
 fn joined(headers: [Header; 4], payloads: [u64; 4]) -> [Block; 4]
     ensures { result ≡ blocks_of headers (words payloads) }
 {
-    let [h0, h1, h2, h3] = headers;
-    let [p0, p1, p2, p3] = payloads;
-    [
-        Block {
-            header: h0,
-            payload: p0,
-        },
-        Block {
-            header: h1,
-            payload: p1,
-        },
-        Block {
-            header: h2,
-            payload: p2,
-        },
-        Block {
-            header: h3,
-            payload: p3,
-        },
-    ]
-}
-
-fn headers(flags: u64) -> [Header; 4]
-    ensures { result ≡ map flagged (field flags 0 4) }
-{
-    [
-        flagged(flags, 0),
-        flagged(flags, 1),
-        flagged(flags, 2),
-        flagged(flags, 3),
-    ]
-}
-
-// The low digit of the type in part `at`.
-fn low_digit(at: usize, a: u64, b: u64, c: u64, d: u64) -> u64
-    requires { at < 4 }
-    ensures { result ≡ number (take 4 (drop (64 * at) (drop 4 (words (a ∷ b ∷ c ∷ d ∷ []))))) }
-{
-    payload_at(at, a, b, c, d) / 16 % 16
-}
-
-// The four blocks where flag `at` is the first that is 0.
-fn control_blocks(at: usize, a: u64, b: u64, c: u64, d: u64) -> [Block; 4]
-    requires { at < 4 }
-    ensures { result ≡ control_back (field a 0 4) at (drop 4 (words (a ∷ b ∷ c ∷ d ∷ []))) (high_digit (number (take 4 (drop (64 * at) (drop 4 (words (a ∷ b ∷ c ∷ d ∷ []))))))) }
-{
-    let mut headers = headers(a);
-    match high_digit(low_digit(at, a, b, c, d)) {
-        Some(digit) => joined(headers, with_digit(digit, at, a, b, c, d)),
-        None => {
-            headers[at] = Header::Ones;
-            joined(headers, with_digit(0, at, a, b, c, d))
-        }
-    }
+    array::from_fn(|i| block(headers[i], payloads[i]))
 }
 
 impl Group {
@@ -303,27 +176,23 @@ impl Group {
     pub fn of(blocks: [Block; 4]) -> Group
         ensures { bits_of result ≡ group_bits blocks }
     {
-        let [a, b, c, d] = blocks;
-        if !are_good(a.header, b.header, c.header, d.header) {
-            let parts = without_digit(15, 0, a.payload, b.payload, c.payload, d.payload);
+        let headers = headers_of(blocks);
+        let payloads = payloads_of(blocks);
+        if !are_good(&blocks) {
             return Group {
                 first: false,
-                parts,
+                parts: without_digit(15, 0, payloads),
             };
         }
-        match first_control(a.header, b.header, c.header, d.header) {
+        match first_control(&headers) {
             None => Group {
                 first: true,
-                parts: [a.payload, b.payload, c.payload, d.payload],
+                parts: payloads,
             },
-            Some(at) => {
-                let flags = flags(a.header, b.header, c.header, d.header);
-                let parts = without_digit(flags, at, a.payload, b.payload, c.payload, d.payload);
-                Group {
-                    first: false,
-                    parts,
-                }
-            }
+            Some(at) => Group {
+                first: false,
+                parts: without_digit(flags(headers), at, payloads),
+            },
         }
     }
 
@@ -332,18 +201,24 @@ impl Group {
         ensures { result ≡ read_back (bits_of self) }
     {
         let Group { first, parts } = self;
-        let [a, b, c, d] = parts;
         if first {
-            return joined(
-                [Header::Data, Header::Data, Header::Data, Header::Data],
-                [a, b, c, d],
-            );
+            return joined([Header::Data; 4], parts);
         }
-        match first_zero(a) {
-            Some(at) => control_blocks(at, a, b, c, d),
+        let mut headers = headers(parts[0]);
+        match first_control(&headers) {
+            Some(at) => {
+                let digit = match high_digit(parts[at] / 16 % 16) {
+                    Some(digit) => digit,
+                    None => {
+                        headers[at] = Header::Ones;
+                        0
+                    }
+                };
+                joined(headers, with_digit(digit, at, parts))
+            }
             None => {
                 let headers = [Header::Zeros, Header::Ones, Header::Zeros, Header::Ones];
-                joined(headers, with_digit(0, 0, a, b, c, d))
+                joined(headers, with_digit(0, 0, parts))
             }
         }
     }

@@ -1,79 +1,73 @@
-// Octets: 64 bits out of eight of them and back, and block records.
-ghost use Rattle.std.specs.Prelude.{◌≡◌, ◌+◌, ◌≤◌, ◌++◌, length, take, drop};
-ghost use Rattle.blocks.specs.Bits.{field, octet_bits, octets};
-ghost use Rattle.blocks.specs.Blocks.{header_of, kind_of, block_in};
+// Octets: blocks and groups in buffers, and back.
+ghost use Rattle.std.specs.Prelude.{◌≡◌, nat_lt};
+ghost use Rattle.blocks.specs.Blocks.{record_of, DecodesRecord};
+ghost use Rattle.blocks.specs.Groups.{bits_of, group_bits_in, group_octets};
 ghost use Rattle.blocks.specs.Calls.{bad_kind};
 
-use crate::block::{Block, Header};
+use crate::block::{Block, Header, UnknownKind};
+use crate::group::Group;
+use std::array;
 
-// The 64 bits of eight octets from `at` on.
-pub(crate) fn load(octets: &[u8], at: usize) -> u64
-    requires { at + 8 ≤ length octets.now }
-    ensures { field result 0 64 ≡ octet_bits (take 8 (drop at octets.now)) }
-{
-    u64::from_le_bytes([
-        octets[at],
-        octets[at + 1],
-        octets[at + 2],
-        octets[at + 3],
-        octets[at + 4],
-        octets[at + 5],
-        octets[at + 6],
-        octets[at + 7],
-    ])
-}
+// A block record: a kind, then the payload's octets.
+impl TryFrom<[u8; 9]> for Block {
+    type Error = UnknownKind;
 
-pub(crate) fn store(out: &mut [u8], at: usize, x: u64)
-    requires { at + 8 ≤ length out.old }
-    ensures { out.new ≡ take at out.old ++ (octets 8 (field x 0 64) ++ drop (at + 8) out.old) }
-{
-    out[at..at + 8].copy_from_slice(&x.to_le_bytes());
-}
+    ghost try_from_gives = { DecodesRecord };
 
-fn header(kind: u8) -> Header
-    ensures { result ≡ header_of kind }
-{
-    match kind {
-        0 => Header::Zeros,
-        1 => Header::Control,
-        2 => Header::Data,
-        _ => Header::Ones,
+    fn try_from(record: [u8; 9]) -> Result<Block, UnknownKind> {
+        let header = Header::try_from(record[0])?;
+        let payload = record[1..].try_into().unwrap();
+        Ok(Block {
+            header,
+            payload: u64::from_le_bytes(payload),
+        })
     }
 }
 
-pub(crate) fn kind(h: Header) -> u8
-    ensures { result ≡ kind_of h }
-{
-    match h {
-        Header::Zeros => 0,
-        Header::Control => 1,
-        Header::Data => 2,
-        Header::Ones => 3,
+impl From<Block> for [u8; 9] {
+    ghost from_gives = { λ block octets. octets ≡ record_of block };
+
+    fn from(block: Block) -> [u8; 9] {
+        let mut record = [0; 9];
+        record[0] = u8::from(block.header);
+        record[1..].copy_from_slice(&block.payload.to_le_bytes());
+        record
     }
 }
 
-// The block record from byte `at` on.
-pub(crate) fn block_at(records: &[u8], at: usize) -> Block
-    requires { at + 9 ≤ length records.now }
-    ensures { result ≡ block_in (drop at records.now) }
-{
-    Block {
-        header: header(records[at]),
-        payload: load(records, at + 1),
+// A group's octets: bit 0 in a byte of its own, then 32 octets.
+impl From<&[u8; 33]> for Group {
+    ghost from_gives = { λ octets group. bits_of group ≡ group_bits_in octets.now };
+
+    fn from(octets: &[u8; 33]) -> Group {
+        let (parts, _) = octets[1..].as_chunks::<8>();
+        Group {
+            first: octets[0] % 2 == 1,
+            parts: array::from_fn(|i| u64::from_le_bytes(parts[i])),
+        }
     }
 }
 
-// Kinds 0 to 3 are blocks.
-const LAST_KIND: u8 = 3;
+impl From<Group> for [u8; 33] {
+    ghost from_gives = { λ group octets. octets ≡ group_octets (bits_of group) };
+
+    fn from(group: Group) -> [u8; 33] {
+        let mut octets = [0; 33];
+        octets[0] = u8::from(group.first);
+        octets[1..].copy_from_slice(group.parts.map(u64::to_le_bytes).as_flattened());
+        octets
+    }
+}
+
+fn is_unknown(kind: &u8) -> bool
+    ensures { result ≡ nat_lt 3 kind.now }
+{
+    Header::try_from(*kind).is_err()
+}
 
 // The index of the first record whose kind is above 3. The last record may be cut short.
 pub fn first_bad_kind(records: &[u8]) -> Option<usize>
     ensures { result ≡ bad_kind records.now }
 {
-    for i in 0..records.len().div_ceil(9) {
-        if records[9 * i] > LAST_KIND {
-            return Some(i);
-        }
-    }
-    None
+    records.iter().step_by(9).position(is_unknown)
 }

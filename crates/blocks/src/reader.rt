@@ -3,6 +3,7 @@ ghost use Rattle.std.specs.Prelude.{◌≡◌, ◌≤◌, length, drop};
 ghost use Rattle.blocks.specs.Records.{rest_at};
 
 // `index` records stand before byte `at`.
+// By offset: the contracts speak of the whole buffer, and no ghost field can hold it.
 #[derive(Drop)]
 pub struct Reader<'a> {
     pub(crate) src: &'a [u8],

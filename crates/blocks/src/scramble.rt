@@ -1,23 +1,26 @@
 // Scrambling groups, and reading them back. The stream never restarts: the memory goes on from group to group.
-ghost use Rattle.std.specs.Prelude.{◌≡◌, ◌%◌, ◌^◌, ◌<◌, [], ◌∷◌};
+ghost use Rattle.std.specs.Prelude.{◌≡◌, ◌%◌, ℕ, ◌^◌, ◌<◌, List, [], ◌∷◌};
 ghost use Rattle.blocks.specs.Bits.{field};
 ghost use Rattle.blocks.specs.Groups.{one_if, bits_of};
-ghost use Rattle.blocks.specs.Memories.{out_memory, in_memory, Started};
-ghost use Rattle.blocks.specs.Scrambled.{memory_in, scrambled_bits, scrambler_after, descrambled_bits, descrambler_after, Scrambling};
+ghost use Rattle.blocks.specs.Memories.{memory_of, out_memory, in_memory, Started};
+ghost use Rattle.blocks.specs.Scrambled.{memory_in, scrambled_bits, scrambler_after, descrambled_bits, descrambler_after, InParts, Scrambling};
+ghost use Rattle.blocks.specs.Joined.{scrambled_in_parts, descrambled_in_parts};
 ghost use Rattle.blocks.specs.Taps.{tail, taps};
 
 use crate::group::Group;
-use crate::memory::{Descrambler, Scrambler};
+use crate::memory::{Memory, Received, Sent, Stream};
 use crate::refusal::Refusal;
+use std::marker::PhantomData;
 
 const START_LIMIT: u64 = 1 << 58;
 
 // A start value as a memory: its lowest bit is the newest.
-fn memory_from(start: u64) -> u64
-    ensures value { memory_in result ≡ field start 0 58 }
-    ensures bound { result < 2 ^ 58 }
+fn memory_from(start: u64) -> Memory
+    ensures { memory_in result ≡ field start 0 58 }
 {
-    start.reverse_bits() >> 6
+    Memory {
+        bits: start.reverse_bits() >> 6,
+    }
 }
 
 // What the memory adds to the next bits: to bit i the bits 58 and 39 before it.
@@ -40,104 +43,120 @@ fn is_odd(x: u64) -> bool
     x % 2 == 1
 }
 
-impl Scrambler {
-    pub fn new(start: u64) -> Result<Scrambler, Refusal>
-        ensures { Started out_memory start result }
+// A direction of the stream: what it does to the next bits.
+pub trait Direction {
+    // What bits give on a memory of 58 bits, and the memory that they leave.
+    ghost run: { List ℕ → List ℕ → List ℕ };
+
+    ghost after: { List ℕ → List ℕ → List ℕ };
+
+    fn bit(memory: &mut Memory, x: bool) -> bool
+        ensures gives { one_if result ∷ [] ≡ run (memory_in memory.old) (one_if x ∷ []) }
+        ensures leaves { memory_in memory.new ≡ after (memory_in memory.old) (one_if x ∷ []) };
+
+    fn word(memory: &mut Memory, x: u64) -> u64
+        ensures gives { field result 0 64 ≡ run (memory_in memory.old) (field x 0 64) }
+        ensures leaves { memory_in memory.new ≡ after (memory_in memory.old) (field x 0 64) };
+
+    ghost in_parts: { InParts run after };
+}
+
+impl Direction for Sent {
+    ghost run = { scrambled_bits };
+
+    ghost after = { scrambler_after };
+
+    ghost in_parts = { scrambled_in_parts };
+
+    fn bit(memory: &mut Memory, x: bool) -> bool {
+        let bits = memory.bits;
+        let y = (u64::from(x) ^ tail(bits)) % 2;
+        memory.bits = bits / 2 + (y << 57);
+        is_odd(y)
+    }
+
+    fn word(memory: &mut Memory, x: u64) -> u64 {
+        let y = taps(x ^ tail(memory.bits));
+        memory.bits = y >> 6;
+        y
+    }
+}
+
+impl Direction for Received {
+    ghost run = { descrambled_bits };
+
+    ghost after = { descrambler_after };
+
+    ghost in_parts = { descrambled_in_parts };
+
+    fn bit(memory: &mut Memory, y: bool) -> bool {
+        let bits = memory.bits;
+        let received = u64::from(y);
+        memory.bits = bits / 2 + (received << 57);
+        is_odd(received ^ tail(bits))
+    }
+
+    fn word(memory: &mut Memory, y: u64) -> u64 {
+        let x = taps(y) ^ tail(memory.bits);
+        memory.bits = y >> 6;
+        x
+    }
+}
+
+// The 257 bits of a group, one after another.
+fn pass<D: Direction>(memory: &mut Memory, group: Group) -> Group
+    ensures gives { bits_of result ≡ D.run (memory_in memory.old) (bits_of group) }
+    ensures leaves { memory_in memory.new ≡ D.after (memory_in memory.old) (bits_of group) }
+{
+    let Group { first, parts } = group;
+    let [a, b, c, d] = parts;
+    let first = D::bit(memory, first);
+    // Word by word: no clause of `map` says what its closure leaves the memory as.
+    let a = D::word(memory, a);
+    let b = D::word(memory, b);
+    let c = D::word(memory, c);
+    let d = D::word(memory, d);
+    Group {
+        first,
+        parts: [a, b, c, d],
+    }
+}
+
+impl<D> Stream<D> {
+    pub fn new(start: u64) -> Result<Stream<D>, Refusal>
+        ensures { Started memory_of start result }
     {
         if start >= START_LIMIT {
             return Err(Refusal::Start);
         }
-        Ok(Scrambler {
+        Ok(Stream {
             memory: memory_from(start),
+            direction: PhantomData,
         })
     }
+}
 
-    fn bit(&mut self, x: bool) -> bool
-        ensures out { one_if result ∷ [] ≡ scrambled_bits (out_memory self.old) (one_if x ∷ []) }
-        ensures after { out_memory self.new ≡ scrambler_after (out_memory self.old) (one_if x ∷ []) }
-    {
-        let memory = self.memory;
-        let y = (u64::from(x) ^ tail(memory)) % 2;
-        self.memory = memory / 2 + (y << 57);
-        is_odd(y)
-    }
-
-    fn word(&mut self, x: u64) -> u64
-        ensures out { field result 0 64 ≡ scrambled_bits (out_memory self.old) (field x 0 64) }
-        ensures after { out_memory self.new ≡ scrambler_after (out_memory self.old) (field x 0 64) }
-    {
-        let y = taps(x ^ tail(self.memory));
-        self.memory = y >> 6;
-        y
-    }
-
+// Each direction has its own verb: one name for both would not say which contract it has.
+impl Stream<Sent> {
     // The 257 bits of a group as they go out.
+    #[tactic(auto, using(crate::proofs::Scrambles::scrambling))]
     pub fn scramble(&mut self, group: Group) -> Group
         ensures out { bits_of result ≡ scrambled_bits (out_memory self.old) (bits_of group) }
         ensures after { out_memory self.new ≡ scrambler_after (out_memory self.old) (bits_of group) }
         ensures law { Scrambling }
     {
-        let Group { first, parts } = group;
-        let [a, b, c, d] = parts;
-        let first = self.bit(first);
-        let a = self.word(a);
-        let b = self.word(b);
-        let c = self.word(c);
-        let d = self.word(d);
-        Group {
-            first,
-            parts: [a, b, c, d],
-        }
+        pass::<Sent>(&mut self.memory, group)
     }
 }
 
-impl Descrambler {
-    pub fn new(start: u64) -> Result<Descrambler, Refusal>
-        ensures { Started in_memory start result }
-    {
-        if start >= START_LIMIT {
-            return Err(Refusal::Start);
-        }
-        Ok(Descrambler {
-            memory: memory_from(start),
-        })
-    }
-
-    fn bit(&mut self, y: bool) -> bool
-        ensures back { one_if result ∷ [] ≡ descrambled_bits (in_memory self.old) (one_if y ∷ []) }
-        ensures after { in_memory self.new ≡ descrambler_after (in_memory self.old) (one_if y ∷ []) }
-    {
-        let memory = self.memory;
-        let received = u64::from(y);
-        self.memory = memory / 2 + (received << 57);
-        is_odd(received ^ tail(memory))
-    }
-
-    fn word(&mut self, y: u64) -> u64
-        ensures back { field result 0 64 ≡ descrambled_bits (in_memory self.old) (field y 0 64) }
-        ensures after { in_memory self.new ≡ descrambler_after (in_memory self.old) (field y 0 64) }
-    {
-        let x = taps(y) ^ tail(self.memory);
-        self.memory = y >> 6;
-        x
-    }
-
+impl Stream<Received> {
     // The 257 bits of a group as they were before scrambling.
+    #[tactic(auto, using(crate::proofs::Scrambles::scrambling))]
     pub fn descramble(&mut self, group: Group) -> Group
         ensures back { bits_of result ≡ descrambled_bits (in_memory self.old) (bits_of group) }
         ensures after { in_memory self.new ≡ descrambler_after (in_memory self.old) (bits_of group) }
         ensures law { Scrambling }
     {
-        let Group { first, parts } = group;
-        let [a, b, c, d] = parts;
-        let first = self.bit(first);
-        let a = self.word(a);
-        let b = self.word(b);
-        let c = self.word(c);
-        let d = self.word(d);
-        Group {
-            first,
-            parts: [a, b, c, d],
-        }
+        pass::<Received>(&mut self.memory, group)
     }
 }

@@ -1,28 +1,53 @@
 // Reading records one by one.
 ghost use Rattle.std.specs.Prelude.{◌≡◌};
 ghost use Rattle.blocks.specs.Records.{size_of, item_of, look, rest_at, moved};
-ghost use Rattle.blocks.specs.Walk.{item, shown, Visits};
+ghost use Rattle.blocks.specs.Walk.{item, kind_byte, DecodesKind, shown, Visits};
 
+use crate::block::{Header, UnknownKind};
 use crate::reader::Reader;
-use crate::record::Record;
+use crate::record::{BadHeader, Record};
 use crate::refusal::Refusal;
 
-const NOTE: u8 = 16;
-
-fn body_size(kind: u8) -> usize
-    ensures { result ≡ size_of kind }
-{
-    if kind == NOTE { 3 } else { 8 }
+// What a record's kind says: a block with this header, or a pair note.
+#[derive(Clone, Copy)]
+pub(crate) enum Kind {
+    Block(Header),
+    Note,
 }
 
-fn sorted<'a>(kind: u8, body: &'a [u8]) -> Record<'a>
-    ensures { item result ≡ item_of kind body.now }
-{
-    match kind {
-        NOTE => Record::Note(body),
-        2 => Record::Data(body),
-        1 => Record::Control(body),
-        k => Record::BadHeader(k == 3, body),
+impl TryFrom<u8> for Kind {
+    type Error = UnknownKind;
+
+    ghost try_from_gives = { DecodesKind };
+
+    fn try_from(kind: u8) -> Result<Kind, UnknownKind> {
+        if kind == 16 {
+            return Ok(Kind::Note);
+        }
+        Ok(Kind::Block(Header::try_from(kind)?))
+    }
+}
+
+impl Kind {
+    fn body_size(self) -> usize
+        ensures { result ≡ size_of (kind_byte self) }
+    {
+        match self {
+            Kind::Block(_) => 8,
+            Kind::Note => 3,
+        }
+    }
+
+    fn record<'a>(self, body: &'a [u8]) -> Record<'a>
+        ensures { item result ≡ item_of (kind_byte self) body.now }
+    {
+        match self {
+            Kind::Block(Header::Zeros) => Record::BadHeader(BadHeader::Zeros, body),
+            Kind::Block(Header::Control) => Record::Control(body),
+            Kind::Block(Header::Data) => Record::Data(body),
+            Kind::Block(Header::Ones) => Record::BadHeader(BadHeader::Ones, body),
+            Kind::Note => Record::Note(body),
+        }
     }
 }
 
@@ -46,22 +71,14 @@ impl<'a> Reader<'a> {
         ensures index { self.new.index ≡ moved (shown result) self.old.index }
     {
         let src = self.src;
-        let at = self.at;
         let index = self.index;
-        if at >= src.len() {
+        let Some((&kind, rest)) = src[self.at..].split_first() else {
             return Ok(None);
-        }
-        let kind = src[at];
-        if kind > 3 && kind != NOTE {
-            return Err(Refusal::Kind(index));
-        }
-        let size = body_size(kind);
-        if src.len() - at - 1 < size {
-            return Err(Refusal::Length);
-        }
-        let body = &src[at + 1..at + 1 + size];
-        self.at = at + 1 + size;
-        self.index = index + 1;
-        Ok(Some((index, sorted(kind, body))))
+        };
+        let kind = Kind::try_from(kind).map_err(|_| Refusal::Kind(index))?;
+        let body = rest.get(..kind.body_size()).ok_or(Refusal::Length)?;
+        self.at += 1 + body.len();
+        self.index += 1;
+        Ok(Some((index, kind.record(body))))
     }
 }

@@ -1,12 +1,10 @@
 -- The answers of the engines, from what their parts found.
-use Rattle.std.proofs.Common.{◌≡◌, ℕ, ◌<◌, ◌≤◌, List, length, get_or, Ok, Err, sym, refl, ◌∙◌, subst, arith, ext_get_or}
-use Rattle.gf1024.specs.declared.element.Element.{Element}
+use Rattle.std.proofs.Common.{◌≡◌, ℕ, ◌≤◌, List, get_or, Ok, Err, sym, refl, ◌∙◌, subst, arith, ext_get_or}
 use Rattle.code.specs.declared.refusal.Refusal.{Refusal}
 use Rattle.code.specs.declared.refusal.Refusal.TheVariants.{Length, Symbol, Reach}
 use Rattle.code.specs.Code.{WellFormed, Codeword, distance}
-use Rattle.code.specs.Answers.{Lowest, Checked, Repaired, WatchingKeeps}
-use Rattle.code.specs.Lifting.{at, Stored, changes}
-use Rattle.code.proofs.Counting.{count_cong, count_none, none_counted}
+use Rattle.code.specs.Answers.{Lowest, Malformed, Repaired, WatchingKeeps}
+use Rattle.code.proofs.Counting.{count_none, none_counted}
 
 pub not_formed : (w : List ℕ) (i : ℕ) → Lowest w i → WellFormed w → ⊥
 not_formed w i low formed =
@@ -16,10 +14,10 @@ not_formed w i low formed =
     let h = formed.symbols i (omega arith) in
     omega arith
 
-pub checked_out : (w : List ℕ) (e : Refusal) → Checked w (Err e) → WellFormed w → ⊥
-checked_out w Length h formed = h formed.size
-checked_out w (Symbol i) h formed = not_formed w i h.1 formed
-checked_out w Reach h formed = h
+pub malformed_out : (w : List ℕ) (e : Refusal) → Malformed 544 w e → WellFormed w → ⊥
+malformed_out w Length h formed = h formed.size
+malformed_out w (Symbol i) h formed = not_formed w i h.1 formed
+malformed_out w Reach h formed = h
 
 -- a codeword stays
 pub untouched : (reach : ℕ) (w : List ℕ) → Codeword w → Repaired reach w w 0
@@ -45,17 +43,3 @@ none-near w formed other c code near = other (subst Codeword (none_apart w c for
 pub watching_keeps : WatchingKeeps
 watching_keeps w v (Ok n) h = none_apart w v h.formed h.codeword.formed (let d = h.changed in let l = h.within in omega arith)
 watching_keeps w v (Err e) h = h.0
-
--- the elements of a codeword near w are stored
-pub stored : (w v : List ℕ) (es : List Element) (n : ℕ) → WellFormed w → length v ≡ 544 → Stored es (length v) v
-    → (changes 544 w es ≤ 15) × ((v : List ℕ) → length v ≡ 544 → Stored es 544 v → Codeword v) → n ≡ changes 544 w es → Repaired 15 w v n
-unfolding distance
-stored w v es n formed size is h count = record {
-  formed = formed;
-  codeword = h.1 v size each;
-  changed = count_cong 544 (λ i. get_or w i 0) (λ i. get_or w i 0) (λ i. get_or v i 0) (λ i. (at es i).value) (λ i l. refl) each ∙ sym count;
-  within = let a = h.0 in omega arith;
-}
-  where
-    each : (i : ℕ) → i < 544 → get_or v i 0 ≡ (at es i).value
-    each i l = is i (omega arith)

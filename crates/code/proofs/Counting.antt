@@ -1,9 +1,11 @@
 -- Counting the places at which two words differ.
-use Rattle.std.proofs.Common.{◌≡◌, ℕ, zero, suc, ◌+◌, ◌<◌, ◌≤◌, Bool, cond, eqb, ◌⊎◌, List, [], ◌∷◌, length, sym, refl, ap, ◌∙◌, ap₂, inl, inr, ⊎_elim, le_of_suc-le-suc, add-zero, add-suc, eq-or-lt_of_le, arith, eq-eqb, ne_eqb}
+use Rattle.std.proofs.Common.{◌≡◌, ℕ, zero, suc, ◌+◌, ◌<◌, ◌≤◌, Bool, true, false, not, cond, eqb, ◌⊎◌, List, [], ◌∷◌, length, get_or, sym, refl, ap, ◌∙◌, ap₂, inl, inr, ⊎_elim, le_of_suc-le-suc, add-zero, add-suc, eq-or-lt_of_le, arith, eq-eqb, ne_eqb}
 use native.Mathlib.Decide.{ℕ_discrete}
 use Rattle.std.proofs.lemmas.Bool.Decides.{nat_tests}
+use Rattle.std.proofs.lemmas.List.Sums.{sum_by-cons}
 use Rattle.field.specs.Places.{Among}
-use Rattle.code.specs.Code.{differences}
+use Rattle.std.specs.List.{count_by, zip}
+use Rattle.code.specs.Code.{differences, distance}
 
 -- one place more
 pub count_same : (n : ℕ) (v w : ℕ → ℕ) → v n ≡ w n → differences (suc n) v w ≡ differences n v w
@@ -120,3 +122,33 @@ covered n v w (p ∷ ps) h =
     go i (no e) (inl q) = inl (patched_other v w p i e ∙ q)
     go i (no e) (inr (inl q)) = absurd (e q)
     go i (no e) (inr (inr a)) = inr a
+
+-- the first place, and those behind it
+differences_front : (n : ℕ) (v w : ℕ → ℕ) → differences (suc n) v w ≡ cond (eqb (v 0) (w 0)) (differences n (λ i. v (suc i)) (λ i. w (suc i))) (suc (differences n (λ i. v (suc i)) (λ i. w (suc i))))
+unfolding differences
+differences_front zero v w = refl
+differences_front (suc n) v w =
+    ap (λ d. cond (eqb (v (suc n)) (w (suc n))) d (suc d)) (differences_front n v w)
+    ∙ swap (eqb (v (suc n)) (w (suc n))) (eqb (v 0) (w 0)) (differences n (λ i. v (suc i)) (λ i. w (suc i)))
+  where
+    swap : (a b : Bool) (d : ℕ) → cond a (cond b d (suc d)) (suc (cond b d (suc d))) ≡ cond b (cond a d (suc d)) (suc (cond a d (suc d)))
+    swap true true d = refl
+    swap true false d = refl
+    swap false true d = refl
+    swap false false d = refl
+
+-- the pairs of different symbols
+pairs : (v w : List ℕ) → length v ≡ length w → count_by (λ p. not (eqb p.0 p.1)) (zip v w) ≡ differences (length v) (λ i. get_or v i 0) (λ i. get_or w i 0)
+unfolding differences
+pairs [] w e = refl
+pairs (x ∷ v) [] e = absurd (omega arith)
+pairs (x ∷ v) (y ∷ w) e =
+    sum_by-cons (λ p. cond (not (eqb p.0 p.1)) 1 0) (x, y) (zip v w) ∙ one (eqb x y) _ _ (pairs v w (omega arith)) ∙ sym (differences_front (length v) (λ i. get_or (x ∷ v) i 0) (λ i. get_or (y ∷ w) i 0))
+  where
+    one : (b : Bool) (m n : ℕ) → m ≡ n → cond (not b) 1 0 + m ≡ cond b n (suc n)
+    one true m n h = omega arith
+    one false m n h = omega arith
+
+pub counted : (v w : List ℕ) → length v ≡ 544 → length w ≡ 544 → count_by (λ p. not (eqb p.0 p.1)) (zip v w) ≡ distance v w
+unfolding distance
+counted v w long size = pairs v w (long ∙ sym size) ∙ ap (λ n. differences n (λ i. get_or v i 0) (λ i. get_or w i 0)) long

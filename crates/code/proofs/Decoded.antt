@@ -1,5 +1,5 @@
 -- What the decoder says of elements, for the symbols of a word.
-use Rattle.std.proofs.Common.{◌≡◌, ℕ, ◌-◌, ◌<◌, ◌≤◌, Bool, true, false, ◌⊎◌, List, map, length, get_or, MatchBool, sym, ap, ◌∙◌, subst, inl, inr, ⊎_elim, arith, ext_get_or}
+use Rattle.std.proofs.Common.{◌≡◌, ℕ, ◌-◌, ◌<◌, ◌≤◌, true, false, ◌⊎◌, List, map, length, get_or, sym, ap, ◌∙◌, inl, inr, ⊎_elim, arith, ext_get_or}
 use Rattle.field.specs.Places.{Among, Apart}
 use Rattle.field.specs.Sums.{pow, syndrome, word_value}
 use Rattle.field.proofs.WordValues.{value_same, syndrome-value}
@@ -9,7 +9,7 @@ use Rattle.gf1024.specs.declared.element.Element.{Element}
 use Rattle.gf1024.specs.Field.{group, ring, alpha, element}
 use Rattle.gf1024.specs.ElementsLemmas.{laws}
 use Rattle.code.specs.Code.{WellFormed, Codeword, differences, distance}
-use Rattle.code.specs.Lifting.{at, symbol, Loaded, Points, Stored, Accepted, ProposedWord, changes}
+use Rattle.code.specs.Lifting.{at, symbol, Loaded, Points, Stored, Candidate}
 use Rattle.code.specs.Division.{WordSyndromes}
 use Rattle.code.proofs.Counting.{Cover, listed, covered}
 use Rattle.code.proofs.Lifted.{small_is, points_are, syndromes_zero, at_map}
@@ -19,18 +19,12 @@ points_distinct xs size points i j a b e =
     let q = laws.distinct (543 - i) (543 - j) (omega arith) (omega arith) (sym (points i (omega arith)) ∙ e ∙ points j (omega arith)) in
     omega arith
 
-module _ (w : List ℕ) (es xs : List Element) (formed : WellFormed w) (size : length es ≡ 544) (loaded : Loaded w (length w) es) (points : Points 544 xs) where
+module _ (w : List ℕ) (es xs : List Element) (formed : WellFormed w) (size : length es ≡ 544) (loaded : Loaded w 544 es) (points : Points 544 xs) where
   is : (i : ℕ) → i < 544 → at es i ≡ element (get_or w i 0)
-  is i l = loaded i (let e = formed.size in omega arith)
+  is i l = loaded i l
 
   number_is : (i : ℕ) → i < 544 → get_or w i 0 ≡ (at es i).value
   number_is i l = sym (ap (λ (x : Element). x.value) (is i l) ∙ small_is (get_or w i 0) (formed.symbols i l))
-
-  few : (out : List Element) (qs : List ℕ) → length qs ≤ 15 → ((i : ℕ) → i < length es → (at es i ≡ at out i) ⊎ Among i qs) → changes 544 w out ≤ 15
-  few out qs len near = let h = covered 544 (λ i. get_or w i 0) (λ i. (at out i).value) qs cover in omega arith
-    where
-      cover : Cover 544 (λ i. get_or w i 0) (λ i. (at out i).value) qs
-      cover i l = ⊎_elim (λ e. inl (number_is i l ∙ ap (λ (x : Element). x.value) e)) (λ a. inr a) (near i (omega arith))
 
   pub syndromes_are : (s : List Element) → WordSyndromes w s → Syndromes group ring es xs (length es) 30 s
   syndromes_are s h k l =
@@ -55,26 +49,26 @@ module _ (w : List ℕ) (es xs : List Element) (formed : WellFormed w) (size : l
   unfolding distance
   close c near = let qs = listed 544 (λ i. get_or w i 0) (λ i. get_or c i 0) in (qs.0, within c qs near, cover c qs)
 
-  pub proposed_word : (out : List Element) (b : Bool) → Proposed group ring xs (length es) 15 es out b → ProposedWord w out b
-  proposed_word out true h = (
-    few out h.near.0 h.near.1 h.near.2,
-    λ c code near i l.
-        sym (ap (λ (x : Element). x.value) (h.only (map element c) (zero c code) (close c near) i (omega arith) ∙ at_map c i) ∙ small_is (get_or c i 0) (code.formed.symbols i l)),
-  )
-  proposed_word out false h = λ c code near. h (map element c) (zero c code) (close c near)
+  -- the elements of a proposal are the symbols of v
+  module _ (out : List Element) (v : List ℕ) (long : length v ≡ 544) (stored : Stored out 544 v) where
+    near_word : (qs : List ℕ) → length qs ≤ 15 → ((i : ℕ) → i < length es → (at es i ≡ at out i) ⊎ Among i qs) → distance w v ≤ 15
+    unfolding distance
+    near_word qs len near = let h = covered 544 (λ i. get_or w i 0) (λ i. get_or v i 0) qs covers in omega arith
+      where
+        covers : Cover 544 (λ i. get_or w i 0) (λ i. get_or v i 0) qs
+        covers i l = ⊎_elim (λ e. inl (number_is i l ∙ ap (λ (x : Element). x.value) e ∙ sym (stored i l))) (λ a. inr a) (near i (omega arith))
 
--- the elements stored in the word v
-module _ (es : List Element) (v : List ℕ) (size : length v ≡ 544) (is : Stored es 544 v) where
-  pub stored_formed : WellFormed v
-  stored_formed = record { size = size; symbols = λ i l. rw (is i l) (at es i).small }
+    pub candidate : Proposed group ring xs (length es) 15 es out true → Candidate w v
+    candidate h = record {
+      formed = record { size = long; symbols = λ i l. rw (stored i l) (at out i).small };
+      near = near_word h.near.0 h.near.1 h.near.2;
+      only = λ c code near.
+          ext_get_or 0 c v (code.formed.size ∙ sym long)
+          (λ i l.
+          sym (small_is (get_or c i 0) (code.formed.symbols i (let e = code.formed.size in omega arith)))
+          ∙ sym (ap (λ (x : Element). x.value) (h.only (map element c) (zero c code) (close c near) i (let e = code.formed.size in omega arith) ∙ at_map c i))
+          ∙ sym (stored i (let e = code.formed.size in omega arith)));
+    }
 
-  stored_one : (u : List ℕ) → length u ≡ 544 → Stored es 544 u → v ≡ u
-  stored_one u size_u is_u = ext_get_or 0 v u (size ∙ sym size_u) (λ i l. is i (omega arith) ∙ sym (is_u i (omega arith)))
-
-  pub accepted : (b : Bool) → MatchBool b (Codeword v) (Codeword v → ⊥) → MatchBool b (Accepted es) (Accepted es → ⊥)
-  accepted true h = λ u size_u is_u. subst Codeword (stored_one u size_u is_u) h
-  accepted false h = λ all. h (all v size is)
-
--- a proposal that is not accepted leaves no codeword near w
-pub none-accepted : (w : List ℕ) (es : List Element) → ((c : List ℕ) → Codeword c → distance w c ≤ 15 → Stored es 544 c) → (Accepted es → ⊥) → (c : List ℕ) → Codeword c → distance w c ≤ 15 → ⊥
-none-accepted w es only no_one c code near = no_one (λ v size is. subst Codeword (stored_one es c code.formed.size (only c code near) v size is) code)
+  pub no_candidate : (out : List Element) → Proposed group ring xs (length es) 15 es out false → (c : List ℕ) → Codeword c → distance w c ≤ 15 → ⊥
+  no_candidate out h c code near = h (map element c) (zero c code) (close c near)

@@ -1,9 +1,9 @@
 -- The division by the generator leaves a remainder that makes the message a codeword, and the only one.
-use Rattle.std.proofs.Common.{◌≡◌, ℕ, suc, ◌+◌, ◌-◌, ◌%◌, ◌<◌, List, length, get_or, take, sym, refl, ap, ◌∙◌, ap₂, add-one, arith, lit<, ext_get_or}
+use Rattle.std.proofs.Common.{◌≡◌, ℕ, suc, ◌+◌, ◌-◌, ◌%◌, ◌<◌, List, ◌++◌, length, get_or, take, length-append, sym, refl, ap, ◌∙◌, ap₂, add-one, arith, lit<, ext_get_or}
 use native.Mathlib.Decide.{dec_lt}
 use lib.Bits.{bit_xor, xor_lt}
 use lib.ListN.{get_or-eq_default}
-use Rattle.std.proofs.lemmas.List.{length-take-le, get_or-take}
+use Rattle.std.proofs.lemmas.List.{length-take-le, get_or-take, get_or_append_left, get_or-append-add}
 use Rattle.field.specs.Sums.{pow, word_value}
 use Rattle.field.proofs.Algebra.{zero-times, spread_right}
 use Rattle.field.proofs.Sums.{sum-zero}
@@ -15,7 +15,7 @@ use Rattle.gf1024.specs.ElementsLemmas.{same, laws}
 use Rattle.code.specs.Code.{Codeword, distance}
 use Rattle.code.specs.Answers.{Encoded}
 use Rattle.code.specs.Lifting.{symbol}
-use Rattle.code.specs.Division.{tap, Register, Shifted, raised, Remainder, Appended}
+use Rattle.code.specs.Division.{tap, Register, Shifted, raised, Remainder}
 use Rattle.code.proofs.Counting.{count_behind}
 use Rattle.code.proofs.Far.{far_apart}
 use Rattle.code.proofs.Generator.{tap-small, taps}
@@ -51,7 +51,7 @@ remainder_none m register size h = record {
 -- one symbol more
 module _ (m : List ℕ) (n : ℕ) (old new : List ℕ) (small : get_or m n 0 < 1024) (size : length new ≡ 33) (r : Remainder m n old) (s : Shifted old (bit_xor (get_or m n 0) (get_or old 0 0)) 0 32 new) where
   still : Register new
-  still = still_register old new (bit_xor (get_or m n 0) (get_or old 0 0)) (xor_lt 10 (get_or m n 0) (get_or old 0 0) small (r.register.small 0)) r.register size s
+  still = still_register old new (bit_xor (get_or m n 0) (get_or old 0 0)) 0 32 (xor_lt 10 (get_or m n 0) (get_or old 0 0) small (r.register.small 0)) r.register size s
 
   stepped : (j : ℕ) → j < 30 → symbol new j ≡ symbol old (suc j) ⊕ (symbol m n ⊕ symbol old 0) ⊗ element (tap j)
   stepped j l =
@@ -76,20 +76,42 @@ module _ (m : List ℕ) (n : ℕ) (old new : List ℕ) (small : get_or m n 0 < 1
   unfolding raised
   remainder_next = record { register = still; value = λ k l. next (pow ring alpha k) (taps k l) (r.value k l) }
 
+-- only the first symbols count
+pub remainder_front : (m r : List ℕ) → Remainder (take 514 m) 514 r → Remainder m 514 r
+unfolding raised
+remainder_front m r h = record {
+  register = h.register;
+  value = λ k l.
+      h.value k l
+      ∙ ap (λ z. z ⊗ pow ring (pow ring alpha k) 30) (value_same group ring 514 (symbol (take 514 m)) (symbol m) (pow ring alpha k) (λ i q. ap element (get_or-take 514 m i 0 q)));
+}
+
 -- the word: the message, and the remainder behind it
-module _ (m : List ℕ) (register front word : List ℕ) (size_m : length m ≡ 514) (small_m : (i : ℕ) → i < length m → get_or m i 0 < 1024) (rem : Remainder m 514 register)
-    (size : length word ≡ 544) (begin : (i : ℕ) → i < 514 → get_or front i 0 ≡ get_or m i 0) (app : Appended front register 30 word) where
+module _ (m register word : List ℕ) (size_m : length m ≡ 514) (small_m : (i : ℕ) → i < 514 → get_or m i 0 < 1024) (rem : Remainder m 514 register) (is : word ≡ m ++ take 30 register) where
   first : (i : ℕ) → i < 514 → get_or word i 0 ≡ get_or m i 0
-  first i l = app.front i l ∙ begin i l
+  first i l = ap (λ w. get_or w i 0) is ∙ get_or_append_left m (take 30 register) 0 i (omega arith)
+
+  back : (j : ℕ) → j < 30 → get_or word (514 + j) 0 ≡ get_or register j 0
+  back j l =
+      ap (λ w. get_or w (514 + j) 0) is
+      ∙ ap (λ n. get_or (m ++ take 30 register) (n + j) 0) (sym size_m)
+      ∙ get_or-append-add m (take 30 register) j 0
+      ∙ get_or-take 30 register j 0 l
+
+  size : length word ≡ 544
+  size =
+      let e : length word ≡ length m + length (take 30 register) = ap length is ∙ length-append m (take 30 register) in
+      let t : length (take 30 register) ≡ 30 = length-take-le 30 register (let s = rem.register.size in omega arith) in
+      omega arith
 
   small : (i : ℕ) → i < 544 → get_or word i 0 < 1024
   small i l = go (dec_lt i 514)
     where
       go : Dec (i < 514) → get_or word i 0 < 1024
-      go (yes q) = rw (first i q) (small_m i (omega arith))
+      go (yes q) = rw (first i q) (small_m i q)
       go (no q) =
           let e : 514 + (i - 514) ≡ i = omega arith in
-          let at_back : get_or word i 0 ≡ get_or register (i - 514) 0 = ap (λ k. get_or word k 0) (sym e) ∙ app.back (i - 514) (omega arith) in
+          let at_back : get_or word i 0 ≡ get_or register (i - 514) 0 = ap (λ k. get_or word k 0) (sym e) ∙ back (i - 514) (omega arith) in
           rw at_back (rem.register.small (i - 514))
 
   value-zero : (k : ℕ) → k < 30 → word_value group ring 544 (symbol word) (pow ring alpha k) ≡ group.zero
@@ -99,7 +121,7 @@ module _ (m : List ℕ) (register front word : List ℕ) (size_m : length m ≡ 
       value-joined group ring laws.field 514 30 (symbol word) x
       ∙ ap₂ (λ a b. a ⊗ pow ring x 30 ⊕ b)
       (value_same group ring 514 (symbol word) (symbol m) x (λ i h. ap element (first i h)))
-      (value_same group ring 30 (λ j. symbol word (514 + j)) (symbol register) x (λ j h. ap element (app.back j h)) ∙ rem.value k l)
+      (value_same group ring 30 (λ j. symbol word (514 + j)) (symbol register) x (λ j h. ap element (back j h)) ∙ rem.value k l)
       ∙ laws.field.adds.opposite (raised m 514 k)
 
   codeword : Codeword word
@@ -110,8 +132,8 @@ module _ (m : List ℕ) (register front word : List ℕ) (size_m : length m ≡ 
 
   begins : take 514 word ≡ m
   begins =
-      let long : length (take 514 word) ≡ 514 = length-take-le 514 word (omega arith) in
-      ext_get_or 0 (take 514 word) m (long ∙ sym size_m) (λ i l. get_or-take 514 word i 0 (omega arith) ∙ first i (omega arith))
+      let long : length (take 514 word) ≡ 514 = length-take-le 514 word (let s = size in omega arith) in
+      ext_get_or 0 (take 514 word) m (long ∙ sym size_m) (λ i l. get_or-take 514 word i 0 (omega arith) ∙ first i (let s = long in omega arith))
 
   only : (c : List ℕ) → Codeword c → take 514 c ≡ m → c ≡ word
   unfolding distance

@@ -1,10 +1,10 @@
 -- Every message has its codeword: the register that takes in the message gives the symbols behind it.
-use Rattle.std.proofs.Common.{◌≡◌, ℕ, zero, suc, ◌+◌, ◌-◌, ◌<◌, ◌≤◌, List, ◌++◌, length, get_or, take, set, replicate, refl, ap, ◌∙◌, subst, add-one, arith}
+use Rattle.std.proofs.Common.{◌≡◌, ℕ, zero, suc, ◌+◌, ◌<◌, ◌≤◌, List, ◌++◌, length, get_or, take, set, replicate, refl, ◌∙◌, subst, add-one, arith}
 use lib.Bits.{bit_xor}
-use Rattle.std.proofs.lemmas.List.{length-set, length-append, length-take-le, get_or-replicate, get_or_append_left, get_or-append_right, get_or-take}
+use Rattle.std.proofs.lemmas.List.{length-set, get_or-replicate}
 use Rattle.gf1024.specs.Product.{times}
 use Rattle.code.specs.Answers.{Encoded, EachEncodes}
-use Rattle.code.specs.Division.{tap, Shifted, Remainder, Appended}
+use Rattle.code.specs.Division.{tap, Shifted, Remainder}
 use Rattle.code.proofs.Division.{remainder_none, remainder_next, encoded}
 use Rattle.code.proofs.Shifting.{none-shifted, one_shifted}
 
@@ -43,26 +43,8 @@ register_is m small (suc n) l =
     subst (λ k. Remainder m k (shifted old f 32)) (add-one n)
     (remainder_next m n old (shifted old f 32) (small n (omega arith)) (shifted-length old f 32 ∙ size) r (shifted_is old f 32 (omega arith)))
 
--- the message, and the remainder behind it
-module _ (m r : List ℕ) (size : length m ≡ 514) (small : (i : ℕ) → i < 514 → get_or m i 0 < 1024) (rem : Remainder m 514 r) where
-  parity_length : length (take 30 r) ≡ 30
-  parity_length = length-take-le 30 r (let s = rem.register.size in omega arith)
-
-  appended : Appended m r 30 (m ++ take 30 r)
-  appended = record {
-    front = λ i l. get_or_append_left m (take 30 r) 0 i (omega arith);
-    back = λ j l.
-        get_or-append_right m (take 30 r) 514 (514 + j) 0 size (omega arith)
-        ∙ ap (λ k. get_or (take 30 r) k 0) (let e : 514 + j - 514 ≡ j = omega arith in e)
-        ∙ get_or-take 30 r j 0 l;
-  }
-
-  encodes : Encoded m (m ++ take 30 r)
-  encodes =
-      encoded m r m (m ++ take 30 r) size (λ i l. small i (omega arith)) rem
-      (let s = parity_length in simp length-append (omega arith)) (λ i l. refl) appended
-
 pub each_encodes : EachEncodes
 each_encodes m size small =
-    let e : Encoded m (m ++ take 30 (register m 514)) = encodes m (register m 514) size small (register_is m small 514 (omega arith)) in
+    let r = register m 514 in
+    let e : Encoded m (m ++ take 30 r) = encoded m r (m ++ take 30 r) size small (register_is m small 514 (omega arith)) refl in
     subst (λ w. Encoded m w) e.named e

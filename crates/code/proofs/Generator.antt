@@ -1,32 +1,30 @@
 -- The generator: its coefficients, and that the taps stand for x^30 at its roots.
-use Rattle.std.proofs.Common.{◌≡◌, ℕ, ◌-◌, ◌%◌, ◌<◌, Bool, cond, T, eqb, ltb, List, [], ◌∷◌, get_or, sym, refl, ap, ◌∙◌, eqb→eq, ltb→lt}
+use Rattle.std.proofs.Common.{◌≡◌, ℕ, ◌-◌, ◌%◌, ◌<◌, Bool, cond, T, eqb, ltb, List, get_or, sym, refl, ap, ◌∙◌, eqb→eq, ltb→lt}
 use Rattle.field.specs.Sums.{pow, word_value}
 use Rattle.field.proofs.WordValues.{value_same}
 use Rattle.gf1024.specs.Product.{step, product, times}
 use Rattle.gf1024.specs.Field.{sums, products, group, ring, alpha, element}
 use Rattle.gf1024.specs.ElementsLemmas.{same}
 use Rattle.gf1024.specs.Tests.{every, every_at}
+use Rattle.code.specs.declared.encoder.TheConstants.{GENERATOR}
 use Rattle.code.specs.Code.{root, by_factor, generator}
 use Rattle.code.specs.Division.{tap}
 use Rattle.code.proofs.Lifted.{power_value, value_of}
 
-unfoldable pub coefficients : List ℕ
-coefficients = 523 ∷ 834 ∷ 128 ∷ 158 ∷ 185 ∷ 127 ∷ 392 ∷ 193 ∷ 610 ∷ 788 ∷ 361 ∷ 883 ∷ 503 ∷ 942 ∷ 385 ∷ 495 ∷ 720 ∷ 94 ∷ 132 ∷ 593 ∷ 249 ∷ 282 ∷ 565 ∷ 108 ∷ 1 ∷ 552 ∷ 230 ∷ 187 ∷ 552 ∷ 575 ∷ 1 ∷ []
-
-pub coefficients_are : coefficients ≡ generator 30
-unfolding coefficients generator by_factor times product step
+pub coefficients_are : GENERATOR ≡ generator 30
+unfolding generator by_factor times product step
 coefficients_are = refl
 
 -- the coefficients as taps
 unfoldable pub coefficient : ℕ → ℕ
-coefficient j = cond (ltb j 30) (get_or coefficients (29 - j) 0) 0
+coefficient j = cond (ltb j 30) (get_or GENERATOR (29 - j) 0) 0
 
 pub coefficient_is : (j : ℕ) → coefficient j ≡ tap j
 unfolding coefficient tap
 coefficient_is j = ap (λ (g : List ℕ). cond (ltb j 30) (get_or g (29 - j) 0) 0) coefficients_are
 
 coefficients_small : T (every (λ j. ltb (coefficient j) 1024) 30)
-unfolding coefficient coefficients
+unfolding coefficient
 coefficients_small = tt
 
 pub tap-small : (j : ℕ) → j < 30 → tap j < 1024
@@ -36,7 +34,7 @@ taps_hold : ℕ → Bool
 taps_hold k = eqb (word_value sums products 30 (λ j. coefficient j % 1024) (root k)) (pow products (root k) 30)
 
 all_hold : T (every taps_hold 30)
-unfolding taps_hold coefficient word_value coefficients times product step
+unfolding taps_hold coefficient word_value times product step
 all_hold = tt
 
 pub taps : (k : ℕ) → k < 30 → word_value group ring 30 (λ j. element (tap j)) (pow ring alpha k) ≡ pow ring (pow ring alpha k) 30

@@ -3,10 +3,10 @@ pub mod Counting
 pub mod Lifted
 pub mod Far
 pub mod Named
+mod Words
 mod Answered
 mod Decoded
 mod Generator
-mod ProductLists
 mod TapProducts
 mod Shifting
 mod Division

@@ -37,14 +37,16 @@ both-shifted old now new f b c low s t = record {
     go j h (yes l) = t.before j l ∙ s.step j (omega arith) l
     go j h (no l) = t.step j (omega arith) h ∙ ap (λ x. bit_xor x (times f (tap j))) (s.after (j + 1) (omega arith))
 
--- it stays a register
-pub still_register : (old new : List ℕ) (f : ℕ) → f < 1024 → Register old → length new ≡ 33 → Shifted old f 0 32 new → Register new
-still_register old new f h r size s = record { size = size; small = λ i. small i (dec_lt i 32); behind = λ i l. behind i l (dec_lt i 32) }
+-- it stays a register, wherever the shift has come to
+pub still_register : (old new : List ℕ) (f a b : ℕ) → f < 1024 → Register old → length new ≡ 33 → Shifted old f a b new → Register new
+still_register old new f a b h r size s = record { size = size; small = λ i. small i (dec_lt i a) (dec_lt i b); behind = λ i l. behind i l (dec_lt i a) (dec_lt i b) }
   where
-    small : (i : ℕ) → Dec (i < 32) → get_or new i 0 < 1024
-    small i (yes l) = rw (s.step i (omega arith) l) (xor_lt 10 (get_or old (i + 1) 0) (times f (tap i)) (r.small (i + 1)) (times_lt f (tap i) h))
-    small i (no l) = rw (s.after i (omega arith)) (r.small i)
+    small : (i : ℕ) → Dec (i < a) → Dec (i < b) → get_or new i 0 < 1024
+    small i (yes l) k = rw (s.before i l) (r.small i)
+    small i (no l) (yes k) = rw (s.step i (omega arith) k) (xor_lt 10 (get_or old (i + 1) 0) (times f (tap i)) (r.small (i + 1)) (times_lt f (tap i) h))
+    small i (no l) (no k) = rw (s.after i (omega arith)) (r.small i)
 
-    behind : (i : ℕ) → 30 ≤ i → Dec (i < 32) → get_or new i 0 ≡ 0
-    behind i q (yes l) = s.step i (omega arith) l ∙ ap₂ bit_xor (r.behind (i + 1) (omega arith)) (tap-none f i q)
-    behind i q (no l) = s.after i (omega arith) ∙ r.behind i q
+    behind : (i : ℕ) → 30 ≤ i → Dec (i < a) → Dec (i < b) → get_or new i 0 ≡ 0
+    behind i q (yes l) k = s.before i l ∙ r.behind i q
+    behind i q (no l) (yes k) = s.step i (omega arith) k ∙ ap₂ bit_xor (r.behind (i + 1) (omega arith)) (tap-none f i q)
+    behind i q (no l) (no k) = s.after i (omega arith) ∙ r.behind i q

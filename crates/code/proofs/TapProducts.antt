@@ -1,14 +1,14 @@
 -- The tables hold the products of the elements and the taps, and the two parts of an element add up.
-use Rattle.std.proofs.Common.{◌≡◌, ℕ, ◌+◌, ◌-◌, ◌*◌, ◌/◌, ◌%◌, ◌<◌, ◌≤◌, Bool, cond, T, eqb, List, [], get_or, sym, ap, ◌∙◌, arith, eqb→eq, le-ltb}
-use lib.Bits.{bit_xor, xor_assoc, xor_comm, xor_shifted}
+use Rattle.std.proofs.Common.{◌≡◌, ℕ, ◌+◌, ◌-◌, ◌*◌, ◌/◌, ◌%◌, ◌<◌, ◌≤◌, Bool, cond, T, eqb, List, [], get_or, sym, ap, ap₂, ◌∙◌, arith, eqb→eq, le-ltb}
+use lib.Bits.{bit_xor, xor_comm, xor_shifted}
 use Rattle.gf1024.specs.Product.{step, product, times}
 use Rattle.gf1024.specs.Laws.{times_sum_left, times_sum_right}
 use Rattle.gf1024.specs.Linear.{at_zero}
 use Rattle.gf1024.specs.Tests.{every, every_at}
 use Rattle.code.specs.Code.{generator}
 use Rattle.code.specs.Division.{tap}
-use Rattle.code.proofs.Generator.{coefficients, coefficient, coefficient_is}
-use Rattle.code.proofs.ProductLists.{lows, highs}
+use Rattle.code.specs.declared.products.TheConstants.{LOW, HIGH}
+use Rattle.code.proofs.Generator.{coefficient, coefficient_is}
 
 -- what stands at the place r of the row q of a
 abbrev pub entry : List (List (List ℕ)) → ℕ → ℕ → ℕ → ℕ
@@ -28,28 +28,23 @@ fit_at rows f t a q r ha hq hr =
     (every_at (fits rows f a q) 8 (every_at (λ q. every (fits rows f a q) 8) 4 (every_at (λ a. every (λ q. every (fits rows f a q) 8) 4) 32 t a ha) q hq) r hr)
     ∙ ap (times (f a)) (coefficient_is (8 * q + r))
 
-lows_fit : T (all_fit lows (λ a. a))
-unfolding all_fit fits coefficient coefficients lows times product step
+lows_fit : T (all_fit LOW (λ a. a))
+unfolding all_fit fits coefficient times product step
 lows_fit = tt
 
-highs_fit : T (all_fit highs (λ b. b * 32))
-unfolding all_fit fits coefficient coefficients highs times product step
+highs_fit : T (all_fit HIGH (λ b. b * 32))
+unfolding all_fit fits coefficient times product step
 highs_fit = tt
 
-pub low_at : (a q r : ℕ) → a < 32 → q < 4 → r < 8 → entry lows a q r ≡ times a (tap (8 * q + r))
-low_at = fit_at lows (λ a. a) lows_fit
-
-pub high_at : (b q r : ℕ) → b < 32 → q < 4 → r < 8 → entry highs b q r ≡ times (b * 32) (tap (8 * q + r))
-high_at = fit_at highs (λ b. b * 32) highs_fit
-
--- the products of both parts
-pub parts : (x f t : ℕ) → bit_xor (bit_xor x (times (f % 32) t)) (times (f / 32 * 32) t) ≡ bit_xor x (times f t)
-parts x f t =
-    xor_assoc x (times (f % 32) t) (times (f / 32 * 32) t)
-    ∙ ap (bit_xor x) (sym (times_sum_left t (f % 32) (f / 32 * 32)) ∙ ap (λ y. times y t) joined)
+-- an element is the sum of its lower five bits and its upper ones, and so are its products
+pub product_at : (a q r : ℕ) → a < 1024 → q < 4 → r < 8 → bit_xor (entry LOW (a % 32) q r) (entry HIGH (a / 32) q r) ≡ times a (tap (8 * q + r))
+product_at a q r ha hq hr =
+    ap₂ bit_xor (fit_at LOW (λ a. a) lows_fit (a % 32) q r (omega arith) hq hr) (fit_at HIGH (λ b. b * 32) highs_fit (a / 32) q r (omega arith) hq hr)
+    ∙ sym (times_sum_left (tap (8 * q + r)) (a % 32) (a / 32 * 32))
+    ∙ ap (λ y. times y (tap (8 * q + r))) joined
   where
-    joined : bit_xor (f % 32) (f / 32 * 32) ≡ f
-    joined = xor_comm (f % 32) (f / 32 * 32) ∙ xor_shifted (f / 32) 5 (f % 32) (omega arith) ∙ omega arith
+    joined : bit_xor (a % 32) (a / 32 * 32) ≡ a
+    joined = xor_comm (a % 32) (a / 32 * 32) ∙ xor_shifted (a / 32) 5 (a % 32) (omega arith) ∙ omega arith
 
 -- no tap stands behind the thirtieth
 pub tap-none : (f j : ℕ) → 30 ≤ j → times f (tap j) ≡ 0

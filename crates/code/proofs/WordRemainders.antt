@@ -1,7 +1,9 @@
 -- The remainder of a word has its values at the roots, so it is zero if and only if the word is a codeword.
-use Rattle.std.proofs.Common.{◌≡◌, ℕ, zero, suc, ◌+◌, ◌-◌, ◌%◌, ◌<◌, ◌≤◌, Bool, true, false, ◌⊎◌, List, [], ◌∷◌, length, get_or, set, MatchBool, sym, refl, ap, ◌∙◌, ap₂, inl, inr, ⊎_elim, le_of_suc-le-suc, not-suc-le-zero, eq-or-lt_of_le, arith, get_or-set_other, get_or-set_same}
+use Rattle.std.proofs.Common.{◌≡◌, ℕ, zero, suc, ◌+◌, ◌-◌, ◌%◌, ◌<◌, ◌≤◌, Bool, true, false, ◌⊎◌, List, [], ◌∷◌, ◌++◌, length, get_or, set, take, drop, length-drop, length-append, reverse, MatchBool, sym, refl, ap, ◌∙◌, ap₂, inl, inr, ⊎_elim, le_of_suc-le-suc, not-suc-le-zero, eq-or-lt_of_le, arith, get_or-set_other, get_or-set_same}
+use native.Mathlib.Decide.{dec_lt}
 use lib.Bits.{bit_xor, xor_lt}
-use Rattle.std.proofs.lemmas.List.{length-set}
+use Rattle.std.specs.List.{AllWithin, HoldsAt}
+use Rattle.std.proofs.lemmas.List.{length-set, length-take-le, get_or-take, get_or-drop, get_or_append_left, get_or-reverse, length-reverse}
 use Rattle.field.specs.Places.{Among}
 use Rattle.field.specs.Sums.{pow, word_value}
 use Rattle.field.proofs.Algebra.{spread_right, zero-times}
@@ -14,7 +16,7 @@ use Rattle.gf1024.specs.Field.{group, ring, alpha, element}
 use Rattle.gf1024.specs.ElementsLemmas.{same, laws}
 use Rattle.code.specs.Code.{WellFormed, Codeword}
 use Rattle.code.specs.Lifting.{at, symbol, RootsOf, Falling}
-use Rattle.code.specs.Division.{raised, Remainder, Joined, WordRemainder, NoRemainder, RegisterValues, WordSyndromes}
+use Rattle.code.specs.Division.{raised, Register, Remainder, Joined, WordRemainder, NoRemainder, RegisterValues, WordSyndromes}
 use Rattle.code.proofs.Lifted.{small_is, equal_symbols, point, points_apart, value_is}
 
 infixl 60 ◌⊕◌
@@ -36,6 +38,13 @@ unfolding word_value
 value_none n c x h =
     sum-zero group ring laws.field n (λ i. c i ⊗ pow ring x (n - 1 - i))
     (λ i l. ap (λ z. z ⊗ pow ring x (n - 1 - i)) (h i l) ∙ zero-times group ring laws.field (pow ring x (n - 1 - i)))
+
+-- the symbols behind the message
+pub back_length : (w : List ℕ) → length w ≡ 544 → length (take 30 (drop 514 w)) ≡ 30
+back_length w size = length-take-le 30 (drop 514 w) (let e = length-drop 514 w in omega arith)
+
+pub back_at : (w : List ℕ) (j : ℕ) → j < 30 → get_or (take 30 (drop 514 w)) j 0 ≡ get_or w (514 + j) 0
+back_at w j l = get_or-take 30 (drop 514 w) j 0 l ∙ get_or-drop 514 w j 0
 
 -- one symbol more is added to the register
 pub joined_next : (w old now : List ℕ) (j : ℕ) → j < 30 → Joined w old j now → Joined w old (j + 1) (set now j (bit_xor (get_or now j 0) (get_or w (514 + j) 0)))
@@ -62,6 +71,14 @@ module _ (w old new : List ℕ) (formed : WellFormed w) (r : Remainder w 514 old
       same _ _
       (small_is (get_or new j 0) (small j l) ∙ joined.front j l
       ∙ ap₂ bit_xor (sym (small_is (get_or old j 0) (r.register.small j))) (sym (small_is (get_or w (514 + j) 0) (formed.symbols (514 + j) (omega arith)))))
+
+  -- and it stays a register
+  pub joined_register : Register new
+  joined_register = record { size = joined.size; small = λ i. below i (dec_lt i 30); behind = λ i l. joined.rest i l ∙ r.register.behind i l }
+    where
+      below : (i : ℕ) → Dec (i < 30) → get_or new i 0 < 1024
+      below i (yes l) = small i l
+      below i (no l) = rw (joined.rest i (omega arith)) (r.register.small i)
 
   pub word_remainder : WordRemainder w new
   unfolding raised
@@ -115,12 +132,30 @@ module _ (w r : List ℕ) (formed : WellFormed w) (is : WordRemainder w r) where
   decides true h = codeword h
   decides false h = λ code. h (none code)
 
+-- the test of the first thirty symbols
+pub zero_answer : (b : Bool) (r : List ℕ) → length r ≡ 33
+    → MatchBool b (AllWithin (λ x. x ≡ 0) (take 30 r) 0 (length (take 30 r))) ((k : ℕ) × (k < length (take 30 r)) × HoldsAt (λ x. x ≡ 0 → ⊥) (take 30 r) k)
+    → MatchBool b (NoRemainder r) (NoRemainder r → ⊥)
+zero_answer true r size h = λ j l.
+    let long : length (take 30 r) ≡ 30 = length-take-le 30 r (omega arith) in
+    sym (get_or-take 30 r j 0 l) ∙ h j 0 (omega arith) (omega arith)
+zero_answer false r size h = λ none.
+    let long : length (take 30 r) ≡ 30 = length-take-le 30 r (omega arith) in
+    h.2 0 (get_or-take 30 r h.0 0 (let l = h.1 in omega arith) ∙ none h.0 (let l = h.1 in omega arith))
+
 -- the values of the register's symbols, given the lowest first
 pub register_values : (r : List ℕ) (es xs s : List Element) → Falling r 30 es → RootsOf 30 xs → length xs ≡ 30 → Values group ring (falling group es 30) 30 xs (length xs) s → RegisterValues r s
 register_values r es xs s f roots size h k l =
     h k (omega arith)
     ∙ value_same group ring 30 (falling group es 30) (symbol r) (at xs k) (λ t q. f (30 - 1 - t) (omega arith) ∙ ap (symbol r) (let e : 29 - (30 - 1 - t) ≡ t = omega arith in e))
     ∙ ap (word_value group ring 30 (symbol r)) (roots k l)
+
+-- the elements of the thirty symbols, turned round
+pub turned : (r : List ℕ) (es : List Element) → length es ≡ 30 → ((i : ℕ) → i < 30 → at es i ≡ symbol r i) → Falling r 30 (reverse es)
+turned r es size is j l =
+    get_or-reverse es j group.zero (omega arith)
+    ∙ ap (λ i. at es i) (let e : length es - 1 - j ≡ 29 - j = omega arith in e)
+    ∙ is (29 - j) (omega arith)
 
 -- they are those of the word
 pub word_values : (w r : List ℕ) (s : List Element) → WordRemainder w r → RegisterValues r s → WordSyndromes w s

@@ -1,5 +1,6 @@
 -- What is answered to a word or a message: the refusals, and what stands in the buffer after each answer.
-use Rattle.std.specs.Prelude.{◌≡◌, ℕ, ◌<◌, ◌≤◌, List, length, Some, None, Ok, Err, Option, Result, slice_index}
+use Rattle.std.specs.Prelude.{◌≡◌, ℕ, ◌<◌, ◌≤◌, List, ◌++◌, codes, length, Some, None, Ok, Err, Option, Result, slice_index}
+use Rattle.std.specs.Fmt.{decimal}
 use Rattle.code.specs.declared.refusal.Refusal.{Refusal}
 use Rattle.code.specs.declared.refusal.Refusal.TheVariants.{Length, Symbol, Reach}
 use Rattle.code.specs.Code.{message_of, WellFormed, Codeword, codeword_of, distance}
@@ -14,6 +15,10 @@ place_of Length = 0
 place_of (Symbol i) = i
 place_of Reach = 0
 
+-- a refusal in words: its number, a space and its place
+abbrev pub text_of : Refusal → List ℕ
+text_of e = decimal (number_of e) ++ codes " " ++ decimal (place_of e)
+
 -- i is the lowest index of a symbol above 1,023
 pub record Lowest (w : List ℕ) (i : ℕ) : Type 0 where
   pub within : i < length w
@@ -25,12 +30,11 @@ abbrev pub LowestLarge : List ℕ → Option ℕ → Type 0
 LowestLarge w None = (k : ℕ) → k < length w → slice_index w k < 1024
 LowestLarge w (Some i) = Lowest w i
 
--- a word is well-formed, or refused since it is not
-abbrev pub Checked : List ℕ → Result (Unit {0}) Refusal → Type 0
-Checked w (Ok u) = WellFormed w
-Checked w (Err Length) = length w ≡ 544 → ⊥
-Checked w (Err (Symbol i)) = (length w ≡ 544) × Lowest w i
-Checked w (Err Reach) = ⊥
+-- why a word is not n symbols of ten bits
+abbrev pub Malformed : ℕ → List ℕ → Refusal → Type 0
+Malformed n w Length = length w ≡ n → ⊥
+Malformed n w (Symbol i) = (length w ≡ n) × Lowest w i
+Malformed n w Reach = ⊥
 
 -- why an engine of that reach refuses the word w
 abbrev pub Refused : ℕ → List ℕ → Refusal → Type 0

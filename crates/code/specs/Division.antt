@@ -31,11 +31,6 @@ pub record Remainder (m : List ℕ) (n : ℕ) (r : List ℕ) : Type 0 where
   pub register : Register r
   pub value : (k : ℕ) → k < 30 → word_value group ring 30 (symbol r) (pow ring alpha k) ≡ raised m n k
 
--- the first n of the register stand behind the first 514 symbols
-pub record Appended (old register : List ℕ) (n : ℕ) (new : List ℕ) : Type 0 where
-  pub front : (i : ℕ) → i < 514 → slice_index new i ≡ slice_index old i
-  pub back : (j : ℕ) → j < n → slice_index new (514 + j) ≡ slice_index register j
-
 -- the first n of the register and the symbols behind the first 514 are added
 pub record Joined (w old : List ℕ) (n : ℕ) (new : List ℕ) : Type 0 where
   pub size : length new ≡ 33

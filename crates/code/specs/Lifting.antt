@@ -1,9 +1,9 @@
 -- Symbols as elements of the field, for the functions that work on those.
-use Rattle.std.specs.Prelude.{◌≡◌, ℕ, ◌-◌, ◌<◌, ◌≤◌, Bool, List, length, MatchBool, slice_index, slice_index_or}
+use Rattle.std.specs.Prelude.{◌≡◌, ℕ, ◌-◌, ◌<◌, ◌≤◌, List, slice_index, slice_index_or}
 use Rattle.field.specs.Sums.{pow}
 use Rattle.gf1024.specs.declared.element.Element.{Element}
 use Rattle.gf1024.specs.Field.{group, ring, alpha, element}
-use Rattle.code.specs.Code.{Codeword, differences, distance}
+use Rattle.code.specs.Code.{WellFormed, Codeword, distance}
 
 -- the element at the place i
 abbrev pub at : List Element → ℕ → Element
@@ -29,19 +29,12 @@ RootsOf n es = (k : ℕ) → k < n → at es k ≡ pow ring alpha k
 abbrev pub Falling : List ℕ → ℕ → List Element → Type 0
 Falling w n es = (j : ℕ) → j < n → at es j ≡ symbol w (29 - j)
 
--- at how many of the first n places the elements differ from the symbols of w
-abbrev pub changes : ℕ → List ℕ → List Element → ℕ
-changes n w es = differences n (λ i. slice_index w i) (λ i. (at es i).value)
-
 -- the first n symbols of w are the elements
 abbrev pub Stored : List Element → ℕ → List ℕ → Type 0
 Stored es n w = (i : ℕ) → i < n → slice_index w i ≡ (at es i).value
 
--- a word with these elements as its symbols is a codeword
-abbrev pub Accepted : List Element → Type 0
-Accepted es = (v : List ℕ) → length v ≡ 544 → Stored es 544 v → Codeword v
-
--- the elements are the only word within fifteen of w that can be a codeword, or there is none
-abbrev pub ProposedWord : List ℕ → List Element → Bool → Type 0
-ProposedWord w es b =
-    MatchBool b ((changes 544 w es ≤ 15) × ((c : List ℕ) → Codeword c → distance w c ≤ 15 → Stored es 544 c)) ((c : List ℕ) → Codeword c → distance w c ≤ 15 → ⊥)
+-- the word v is within fifteen of w, and no other that near can be a codeword
+pub record Candidate (w v : List ℕ) : Type 0 where
+  pub formed : WellFormed v
+  pub near : distance w v ≤ 15
+  pub only : (c : List ℕ) → Codeword c → distance w c ≤ 15 → c ≡ v

@@ -1,17 +1,16 @@
 // The engine of reach 15, by the decoder over any field.
-ghost use Rattle.std.specs.Prelude.{◌≡◌, length, MatchBool};
-ghost use Rattle.code.specs.Code.{WellFormed};
-ghost use Rattle.code.specs.Answers.{AnswersAgree};
-ghost use Rattle.code.specs.Lifting.{changes, Stored, Accepted, ProposedWord};
+ghost use Rattle.std.specs.Prelude.{◌≡◌, MatchResult};
+ghost use Rattle.code.specs.Code.{distance};
+ghost use Rattle.code.specs.Answers.{AnswersAgree, Refused};
+ghost use Rattle.code.specs.Lifting.{Loaded, Stored, Candidate};
 ghost use Rattle.code.specs.Division.{RegisterValues, WordSyndromes};
 ghost use Rattle.std.proofs.Common.{lit≤};
 
 use super::engine::Engine;
 use super::places::Places;
 use super::refusal::Refusal;
-use super::remainder::{is_zero, remainder};
-use super::symbols::{ROOTS, SIZE, check, load, load_falling, places};
-use super::word::has_roots;
+use super::remainder::ShiftRegister;
+use super::symbols::{ROOTS, SIZE, Word};
 use decoder::{Row, Work};
 use gf1024::Element;
 
@@ -22,10 +21,6 @@ const REACH: usize = 15;
 #[derive(Drop)]
 pub struct FullEngine {
     places: Places,
-    received: [Element; SIZE],
-    coefficients: [Element; ROOTS],
-    syndromes: [Element; ROOTS],
-    corrected: [Element; SIZE],
     work: Work<Element>,
 }
 
@@ -40,11 +35,7 @@ impl FullEngine {
             coefficients: [zero; 16],
         };
         FullEngine {
-            places: places(),
-            received: [zero; SIZE],
-            coefficients: [zero; ROOTS],
-            syndromes: [zero; ROOTS],
-            corrected: [zero; SIZE],
+            places: Places::new(),
             work: Work {
                 syndromes: [zero; ROOTS],
                 rows: [row; 16],
@@ -55,72 +46,61 @@ impl FullEngine {
             },
         }
     }
-}
 
-// The syndromes of a word, from its remainder: the values of that at the roots of the generator.
-fn find_syndromes(
-    register: &[u16],
-    places: &Places,
-    coefficients: &mut [Element],
-    syndromes: &mut [Element],
-)
-    requires { (length register.now ≡ 33) × ((length coefficients.old ≡ 30) × (length syndromes.old ≡ 30)) }
-    ensures { RegisterValues register.now syndromes.new }
-{
-    load_falling(register, coefficients);
-    decoder::evaluate(coefficients, ROOTS, &places.roots, syndromes);
-}
-
-// Puts the one word within reach of a well-formed word that can be a codeword into elements, or says that there is none.
-fn propose(
-    word: &[u16],
-    syndromes: &[Element],
-    places: &Places,
-    received: &mut [Element],
-    corrected: &mut [Element],
-    work: &mut Work<Element>,
-) -> bool
-    requires formed { WellFormed word.now }
-    requires syndromes { (WordSyndromes word.now syndromes.now) × (length syndromes.now ≡ 30) }
-    requires sizes { (length received.old ≡ 544) × (length corrected.old ≡ 544) }
-    ensures { ProposedWord word.now corrected.new result }
-{
-    load(word, received);
-    decoder::propose(received, syndromes, &places.points, REACH, corrected, work)
-}
-
-// Whether the elements are the symbols of a codeword.
-fn is_accepted(elements: &[Element]) -> bool
-    requires { length elements.now ≡ 544 }
-    ensures { MatchBool result (Accepted elements.now) (Accepted elements.now → ⊥) }
-{
-    let mut word = [0; SIZE];
-    store(elements, &mut word);
-    has_roots(&word)
-}
-
-// The number of symbols that the elements change.
-fn count_changes(word: &[u16], elements: &[Element]) -> usize
-    requires { (length word.now ≡ 544) × (length elements.now ≡ 544) }
-    ensures { result ≡ changes 544 word.now elements.now }
-{
-    let mut count = 0;
-    for i in 0..SIZE {
-        if word[i] != elements[i].value {
-            count += 1;
-        }
+    // The syndromes of a word, from its remainder: the values of that at the roots of the generator.
+    fn find_syndromes(&self, remainder: &ShiftRegister) -> [Element; ROOTS]
+        ensures { RegisterValues remainder.now.symbols result }
+    {
+        let mut coefficients = remainder.symbols.map(gf1024::from_bits);
+        let coefficients = &mut coefficients[..ROOTS];
+        coefficients.reverse();
+        let mut syndromes = [gf1024::from_bits(0); ROOTS];
+        decoder::evaluate(coefficients, &self.places.roots, &mut syndromes);
+        syndromes
     }
-    count
+
+    // The one word within reach of a word that can be a codeword. Whether it is one is not checked.
+    fn propose(&mut self, word: Word, syndromes: &[Element; ROOTS]) -> Result<[u16; SIZE], Refusal>
+        requires { WordSyndromes word.symbols.now syndromes.now }
+        ensures { MatchResult result (Candidate word.entry.symbols.now) (Refused 15 word.entry.symbols.now) }
+    {
+        let places = &self.places;
+        let received = load(word.symbols);
+        let mut corrected = received;
+        self.work.propose(&received, syndromes, &places.points, REACH, &mut corrected)?;
+        Ok(store(&corrected))
+    }
 }
 
-// Puts the elements into the word as symbols.
-fn store(elements: &[Element], word: &mut [u16])
-    requires { length elements.now ≡ length word.old }
-    ensures { Stored elements.now (length word.old) word.new }
+// The symbols as elements.
+fn load(symbols: &[u16; SIZE]) -> [Element; SIZE]
+    ensures { Loaded symbols.now 544 result }
 {
-    for i in 0..word.len() {
-        word[i] = elements[i].value;
+    let mut elements = [gf1024::from_bits(0); SIZE];
+    // By a loop: `symbols.map(..)` measured slower, and with `from_fn` the proof does not close.
+    for (i, s) in symbols.iter().enumerate() {
+        elements[i] = gf1024::from_bits(*s);
     }
+    elements
+}
+
+// The elements as symbols.
+fn store(elements: &[Element; SIZE]) -> [u16; SIZE]
+    ensures { Stored elements.now 544 result }
+{
+    let mut symbols = [0; SIZE];
+    // By a loop, for the same reason.
+    for (i, e) in elements.iter().enumerate() {
+        symbols[i] = e.value;
+    }
+    symbols
+}
+
+// The number of symbols in which the words differ.
+fn count_changes(v: &[u16; SIZE], w: &[u16; SIZE]) -> usize
+    ensures { result ≡ distance v.now w.now }
+{
+    v.iter().zip(w).filter(|(a, b)| a != b).count()
 }
 
 impl Engine for FullEngine {
@@ -129,30 +109,22 @@ impl Engine for FullEngine {
     ghost bounded = { lit≤ tt };
 
     fn correct(&mut self, word: &mut [u16]) -> Result<usize, Refusal> {
-        check(word)?;
-        let register = remainder(word);
-        if is_zero(&register) {
+        let received = Word::check(word)?;
+        let remainder = received.remainder();
+        if remainder.is_zero() {
             return Ok(0);
         }
-        find_syndromes(
-            &register,
-            &self.places,
-            &mut self.coefficients,
-            &mut self.syndromes,
-        );
-        if !propose(
-            word,
-            &self.syndromes,
-            &self.places,
-            &mut self.received,
-            &mut self.corrected,
-            &mut self.work,
-        ) || !is_accepted(&self.corrected)
-        {
+        let syndromes = self.find_syndromes(&remainder);
+        let corrected = self.propose(received, &syndromes)?;
+        let proposal = Word {
+            symbols: &corrected,
+        };
+        let is_accepted = proposal.has_roots();
+        if !is_accepted {
             return Err(Refusal::Reach);
         }
-        let count = count_changes(word, &self.corrected);
-        store(&self.corrected, word);
+        let count = count_changes(received.symbols, &corrected);
+        word.copy_from_slice(&corrected);
         Ok(count)
     }
 }

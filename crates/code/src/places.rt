@@ -6,8 +6,20 @@ use gf1024::Element;
 
 #[derive(Drop)]
 pub struct Places {
+    // The powers of alpha, the highest first.
     pub points: [Element; SIZE],
+    // The first thirty powers of alpha.
     pub roots: [Element; ROOTS],
     ghost filled: { Points 544 points },
     ghost powers: { RootsOf 30 roots },
+}
+
+impl Places {
+    // The ghost fields say what the elements are.
+    pub fn new() -> Places {
+        Places {
+            points: std::array::from_fn(|i| gf1024::alpha_power(SIZE - 1 - i)),
+            roots: std::array::from_fn(gf1024::alpha_power),
+        }
+    }
 }

@@ -395,18 +395,10 @@ const HIGH: [[[u16; 8]; 4]; 32] = [
     ],
 ];
 
-// The product of a and the tap 8 q + r.
-pub fn low(a: usize, q: usize, r: usize) -> u16
-    requires { (a < 32) × ((q < 4) × (r < 8)) }
+// The product of the element a and the tap 8 q + r: the sum of those of its lower five bits and of its upper ones.
+pub fn product(a: u16, q: usize, r: usize) -> u16
+    requires { (a < 1024) × ((q < 4) × (r < 8)) }
     ensures { result ≡ times a (tap (8 * q + r)) }
 {
-    LOW[a][q][r]
-}
-
-// The product of 32 b and the tap 8 q + r.
-pub fn high(b: usize, q: usize, r: usize) -> u16
-    requires { (b < 32) × ((q < 4) × (r < 8)) }
-    ensures { result ≡ times (b * 32) (tap (8 * q + r)) }
-{
-    HIGH[b][q][r]
+    LOW[a as usize % 32][q][r] ^ HIGH[a as usize / 32][q][r]
 }

@@ -1,67 +1,75 @@
-// The remainder of a message or a word by the generator, in a register of thirty symbols and three zeros behind them.
-ghost use Rattle.std.specs.Prelude.{◌≡◌, ℕ, ◌+◌, ◌*◌, ◌<◌, ◌≤◌, length, MatchBool, bit_xor, slice_index};
-ghost use Rattle.code.specs.Code.{WellFormed};
+// The remainder of a message or a word by the generator.
+ghost use Rattle.std.specs.Prelude.{◌≡◌, ℕ, ◌+◌, ◌*◌, ◌<◌, ◌≤◌, MatchBool, bit_xor, slice_index};
 ghost use Rattle.code.specs.Division.{Register, Shifted, Remainder, WordRemainder, NoRemainder};
 
-use super::products::{high, low};
-use super::symbols::{MESSAGE, ROOTS};
+use super::products::product;
+use super::symbols::{MESSAGE, ROOTS, SIZE, Symbols};
 
-// Shifts the eight places from 8 q on by one place, and adds the products of the feedback and their taps.
-fn shift_eight(register: &mut [u16], feedback: u16, q: usize)
-    requires { (length register.old ≡ 33) × ((feedback < 1024) × (q < 4)) }
-    ensures { Shifted register.old feedback (8 * q) (8 * q + 8) register.new }
-{
-    let a = feedback as usize % 32;
-    let b = feedback as usize / 32;
-    for r in 0..8 {
-        register[8 * q + r] = register[8 * q + r + 1] ^ low(a, q, r) ^ high(b, q, r);
-    }
+// The shift register of the division: thirty symbols of ten bits, and three zeros behind them.
+#[derive(Drop)]
+pub struct ShiftRegister {
+    pub symbols: [u16; 33],
+    ghost held: { Register symbols },
 }
 
-// Takes the next symbol into the register: it shifts by one place, and the sum of that symbol and its first one goes to the taps.
-fn shift(register: &mut [u16], next: u16)
-    requires { (Register register.old) × (next < 1024) }
-    ensures { Shifted register.old (bit_xor next (slice_index register.old 0)) 0 32 register.new }
-{
-    let feedback = next ^ register[0];
-    for q in 0..4 {
-        shift_eight(register, feedback, q);
-    }
-}
-
-// The remainder of the first 514 symbols times x^30.
-pub fn divide(symbols: &[u16]) -> [u16; 33]
-    requires { (514 ≤ length symbols.now) × (((i : ℕ) → i < 514 → slice_index symbols.now i < 1024)) }
-    ensures { Remainder symbols.now 514 result }
-{
-    let mut register = [0; 33];
-    for i in 0..MESSAGE {
-        shift(&mut register, symbols[i]);
-    }
-    register
-}
-
-// The remainder of a well-formed word: that of its message, and the symbols behind the message.
-pub fn remainder(word: &[u16]) -> [u16; 33]
-    requires { WellFormed word.now }
-    ensures { WordRemainder word.now result }
-{
-    let mut register = divide(word);
-    for j in 0..ROOTS {
-        register[j] ^= word[MESSAGE + j];
-    }
-    register
-}
-
-// Whether the remainder is zero.
-pub fn is_zero(register: &[u16]) -> bool
-    requires { length register.now ≡ 33 }
-    ensures { MatchBool result (NoRemainder register.now) (NoRemainder register.now → ⊥) }
-{
-    for j in 0..ROOTS {
-        if register[j] != 0 {
-            return false;
+impl ShiftRegister {
+    // Shifts the eight places from 8 q on by one place, and adds the products of the feedback and their taps.
+    fn shift_eight(&mut self, feedback: u16, q: usize)
+        requires { (feedback < 1024) × (q < 4) }
+        ensures { Shifted self.old.symbols feedback (8 * q) (8 * q + 8) self.new.symbols }
+    {
+        let symbols = &mut self.symbols;
+        // By index: each place takes the symbol of the next one.
+        for r in 0..8 {
+            symbols[8 * q + r] = symbols[8 * q + r + 1] ^ product(feedback, q, r);
         }
     }
-    true
+
+    // Takes the next symbol into the register: it shifts by one place, and the sum of that symbol and its first one goes to the taps.
+    fn shift(&mut self, next: u16)
+        requires { next < 1024 }
+        ensures { Shifted self.old.symbols (bit_xor next (slice_index self.old.symbols 0)) 0 32 self.new.symbols }
+    {
+        let feedback = next ^ self.symbols[0];
+        for q in 0..4 {
+            self.shift_eight(feedback, q);
+        }
+    }
+
+    // Whether the remainder is zero.
+    pub fn is_zero(&self) -> bool
+        ensures { MatchBool result (NoRemainder self.now.symbols) (NoRemainder self.now.symbols → ⊥) }
+    {
+        self.symbols[..ROOTS].iter().all(|s| *s == 0)
+    }
+}
+
+impl<const N: usize> Symbols<'_, N> {
+    // The remainder of the first 514 symbols times x^30.
+    pub fn divide(self) -> ShiftRegister
+        requires { (514 ≤ N) × (N ≤ 544) }
+        ensures { Remainder self.entry.symbols.now 514 result.symbols }
+    {
+        let symbols = self.symbols;
+        let mut register = ShiftRegister { symbols: [0; 33] };
+        for s in &symbols[..MESSAGE] {
+            register.shift(*s);
+        }
+        register
+    }
+}
+
+impl Symbols<'_, SIZE> {
+    // The remainder of a word: that of its message, and the symbols behind the message.
+    pub fn remainder(self) -> ShiftRegister
+        ensures { WordRemainder self.entry.symbols.now result.symbols }
+    {
+        let word = self.symbols;
+        let mut symbols = self.divide().symbols;
+        // By index: of an array behind `iter_mut().zip(..)` a proof knows no element.
+        for (j, s) in word[MESSAGE..].iter().enumerate() {
+            symbols[j] ^= *s;
+        }
+        ShiftRegister { symbols }
+    }
 }

@@ -4,8 +4,7 @@ ghost use Rattle.std.proofs.Common.{lit≤};
 
 use super::engine::Engine;
 use super::refusal::Refusal;
-use super::symbols::check;
-use super::word::has_roots;
+use super::symbols::Word;
 
 #[derive(Drop)]
 pub struct WatchEngine {}
@@ -25,8 +24,8 @@ impl Engine for WatchEngine {
     ghost bounded = { lit≤ tt };
 
     fn correct(&mut self, word: &mut [u16]) -> Result<usize, Refusal> {
-        check(word)?;
-        if has_roots(word) {
+        let received = Word::check(word)?;
+        if received.has_roots() {
             Ok(0)
         } else {
             Err(Refusal::Reach)

@@ -1,10 +1,9 @@
 // Whether a word is a codeword.
 ghost use Rattle.std.specs.Prelude.{MatchBool};
-ghost use Rattle.code.specs.Code.{WellFormed, Codeword, FarApart};
+ghost use Rattle.code.specs.Code.{Codeword, FarApart};
 ghost use Rattle.code.specs.Answers.{EachEncodes};
 
-use super::remainder::{is_zero, remainder};
-use super::symbols::check;
+use super::symbols::{SIZE, Symbols, Word};
 
 // Any word may be asked about. The contract also says that codewords lie far apart, and that every message has its codeword.
 pub fn is_codeword(word: &[u16]) -> bool
@@ -12,16 +11,14 @@ pub fn is_codeword(word: &[u16]) -> bool
     ensures law { FarApart }
     ensures each { EachEncodes }
 {
-    match check(word) {
-        Ok(()) => has_roots(word),
-        Err(_) => false,
-    }
+    Word::check(word).is_ok_and(|word| word.has_roots())
 }
 
-// The same for a well-formed word.
-pub fn has_roots(word: &[u16]) -> bool
-    requires { WellFormed word.now }
-    ensures { MatchBool result (Codeword word.now) (Codeword word.now → ⊥) }
-{
-    is_zero(&remainder(word))
+impl Symbols<'_, SIZE> {
+    // The same for a word of symbols.
+    pub fn has_roots(self) -> bool
+        ensures { MatchBool result (Codeword self.entry.symbols.now) (Codeword self.entry.symbols.now → ⊥) }
+    {
+        self.remainder().is_zero()
+    }
 }

@@ -1,5 +1,6 @@
 -- The errors of a word in reach of a codeword are at the roots of the locator.
-use Rattle.std.proofs.Common.{◌≡◌, ℕ, zero, suc, ◌+◌, ◌*◌, ◌<◌, ◌≤◌, Bool, true, false, ◌⊎◌, List, [], ◌∷◌, length, get_or, MatchBool, sym, refl, ap, ◌∙◌, subst, inl, inr, ⊎_elim, le_of_suc-le-suc, eq-or-lt_of_le, arith}
+use Rattle.std.proofs.Common.{◌≡◌, ℕ, zero, suc, ◌+◌, ◌*◌, ◌<◌, ◌≤◌, ◌≢◌, Bool, true, false, ◌⊎◌, List, [], ◌∷◌, length, get_or, MatchBool, sym, refl, ap, ◌∙◌, subst, inl, inr, ⊎_elim, le_of_suc-le-suc, eq-or-lt_of_le, arith}
+use Rattle.std.specs.List.{AllWithin, HoldsAt}
 use native.Mathlib.Decide.{ℕ_discrete}
 use Rattle.field.specs.Laws.{Group, Ring, FieldLaws}
 use Rattle.field.specs.Sums.{sum, pow, syndrome, polynomial}
@@ -12,7 +13,7 @@ use Rattle.field.proofs.Roots.{few_roots}
 use Rattle.decoder.specs.Words.{Monic, Annihilates, Syndromes}
 use native.Mathlib.Decide.{dec_lt}
 use Rattle.decoder.specs.Errors.{Found, Subtracted, gaps, error_value}
-use Rattle.decoder.specs.Decoding.{Codeword, Near, Proposal, Decoded}
+use Rattle.decoder.specs.Decoding.{Codeword, Near, Proposal}
 use Rattle.decoder.specs.Words.{word_syndrome}
 use Rattle.decoder.proofs.ErrorValues.{remaining-same, remaining_term, gaps_open}
 
@@ -69,10 +70,10 @@ module _ {F : Type 0} (g : Group F) (r : Ring F) (laws : FieldLaws g r) where
       omega arith
 
   -- a test of the syndromes is a test for a codeword
-  pub zero_test : (w xs s : List F) (n m : ℕ) (b : Bool) → Syndromes g r w xs n m s
-      → MatchBool b ((k : ℕ) → k < m → get_or s k 𝟎 ≡ 𝟎) (((k : ℕ) → k < m → get_or s k 𝟎 ≡ 𝟎) → ⊥) → MatchBool b (Codeword g r xs n m w) (Codeword g r xs n m w → ⊥)
-  zero_test w xs s n m true is h = λ k l. sym (is k l) ∙ h k l
-  zero_test w xs s n m false is h = λ code. h (λ k l. is k l ∙ code k l)
+  pub zero_test : (w xs s : List F) (n : ℕ) (b : Bool) → Syndromes g r w xs n (length s) s
+      → MatchBool b (AllWithin (λ y. y ≡ 𝟎) s 0 (length s)) ((k : ℕ) × (k < length s) × HoldsAt (λ y. y ≢ 𝟎) s k) → MatchBool b (Codeword g r xs n (length s) w) (Codeword g r xs n (length s) w → ⊥)
+  zero_test w xs s n true is h = λ k l. sym (is k l) ∙ h k 𝟎 (omega arith) l
+  zero_test w xs s n false is h = λ code. h.2 𝟎 (is h.0 h.1 ∙ code h.0 h.1)
 
   -- each place with an error is found
   errors_found : (n reach : ℕ) (x w c : ℕ → F) (code : (k : ℕ) → k < 2 * reach → syndrome g r n x c k ≡ 𝟎) → Apart n x → (qs : List ℕ) → length qs ≤ reach → ((i : ℕ) → i < n → (w i ≡ c i) ⊎ Among i qs)
@@ -126,9 +127,9 @@ module _ {F : Type 0} (g : Group F) (r : Ring F) (laws : FieldLaws g r) where
             side (yes z) = let w = lists.ascend t j z l in omega arith
             side (no z) = let w = lists.ascend j t (⊎_elim (λ e. absurd (ne (sym e))) (λ e. e) (eq-or-lt_of_le (let y : j ≤ t = omega arith in y))) h in omega arith
 
-    -- the word less the errors there
-    module _ (word s : List F) (syn : (k : ℕ) → k < 2 * reach → get_or s k 𝟎 ≡ word_syndrome g r word xs k n) (annihilates : Annihilates g r v s (reach + 1) reach) (spots out : List F)
-        (at : (t : ℕ) → t < m → get_or spots t 𝟎 ≡ point (place t)) (less : Subtracted g r word found spots s m m out) where
+    -- the word less the errors there, which the first m syndromes give
+    module _ (word s front : List F) (syn : (k : ℕ) → k < 2 * reach → get_or s k 𝟎 ≡ word_syndrome g r word xs k n) (same : (k : ℕ) → k < m → get_or front k 𝟎 ≡ get_or s k 𝟎) (annihilates : Annihilates g r v s (reach + 1) reach)
+        (spots out : List F) (at : (t : ℕ) → t < m → get_or spots t 𝟎 ≡ point (place t)) (less : Subtracted g r word found spots front m m out) where
       near : Near g n reach word out
       near = (places place m, (let e = places_length place m in let f = few in let q : length (places place m) ≤ reach = omega arith in q), λ i l. go i (place? place m i))
         where
@@ -146,11 +147,11 @@ module _ {F : Type 0} (g : Group F) (r : Ring F) (laws : FieldLaws g r) where
           found_at : (k : ℕ) → k < n → (err k ≡ 𝟎) ⊎ Place place m k
           found_at = errors_found n reach (λ k. get_or xs k 𝟎) (λ k. get_or word k 𝟎) (λ k. get_or c k 𝟎) code apart close.0 close.1 close.2 s v syn annihilates place m lists.all
 
-          value : (t : ℕ) → t < m → error_value g r spots (λ k. get_or s k 𝟎) m t ≡ err (place t)
+          value : (t : ℕ) → t < m → error_value g r spots (λ k. get_or front k 𝟎) m t ≡ err (place t)
           value t h =
               ap (λ z. z ⊗ over (gaps g r spots t m))
-              (remaining-same g r laws spots (λ k. get_or s k 𝟎) (syndrome g r n (λ k. get_or xs k 𝟎) err) m t
-              (λ k q. syn k (let f = few in omega arith) ∙ error_syndrome g r laws n (2 * reach) (λ k. get_or xs k 𝟎) (λ k. get_or word k 𝟎) (λ k. get_or c k 𝟎) code k (let f = few in omega arith))
+              (remaining-same g r laws spots (λ k. get_or front k 𝟎) (syndrome g r n (λ k. get_or xs k 𝟎) err) m t
+              (λ k q. same k q ∙ syn k (let f = few in omega arith) ∙ error_syndrome g r laws n (2 * reach) (λ k. get_or xs k 𝟎) (λ k. get_or word k 𝟎) (λ k. get_or c k 𝟎) code k (let f = few in omega arith))
               m 0 (λ z. absurd (omega arith)) (λ z. (omega arith))
               ∙ remaining_term g r laws n (λ k. get_or xs k 𝟎) spots place t err m h at (lists.within t h) found_at)
               ∙ laws.assoc (err (place t)) (gaps g r spots t m) (over (gaps g r spots t m)) ∙ ap (λ z. err (place t) ⊗ z) (laws.inverse (gaps g r spots t m) (open_gaps spots at t h)) ∙ one_right g r laws (err (place t))
@@ -167,7 +168,7 @@ module _ {F : Type 0} (g : Group F) (r : Ring F) (laws : FieldLaws g r) where
       pub proposal : Proposal g r xs n reach word out
       proposal = record { near = near; only = the_word }
 
-  -- the test of a proposal decides
-  pub decoded : (xs : List F) (n reach : ℕ) (word out : List F) (b : Bool) → Proposal g r xs n reach word out → MatchBool b (Codeword g r xs n (2 * reach) out) (Codeword g r xs n (2 * reach) out → ⊥) → Decoded g r xs n reach word out b
-  decoded xs n reach word out true p h = record { codeword = h; near = p.near; only = p.only }
-  decoded xs n reach word out false p h = λ c code close. h (λ k l. sum_same g n (λ i. get_or out i 𝟎 ⊗ pow r (get_or xs i 𝟎) k) (λ i. get_or c i 𝟎 ⊗ pow r (get_or xs i 𝟎) k) (λ i q. ap (λ z. z ⊗ pow r (get_or xs i 𝟎) k) (p.only c code close i q)) ∙ code k l)
+  -- where the proposal is no codeword, none is near
+  pub none_near : (xs : List F) (n reach : ℕ) (word out : List F) → Proposal g r xs n reach word out → (Codeword g r xs n (2 * reach) out → ⊥) → (c : List F) → Codeword g r xs n (2 * reach) c → Near g n reach word c → ⊥
+  none_near xs n reach word out p h c code close =
+      h (λ k l. sum_same g n (λ i. get_or out i 𝟎 ⊗ pow r (get_or xs i 𝟎) k) (λ i. get_or c i 𝟎 ⊗ pow r (get_or xs i 𝟎) k) (λ i q. ap (λ z. z ⊗ pow r (get_or xs i 𝟎) k) (p.only c code close i q)) ∙ code k l)

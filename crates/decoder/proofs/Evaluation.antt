@@ -1,5 +1,6 @@
 -- The evaluation of rows at many points, and that zeros above a row's degree do not count.
-use Rattle.std.proofs.Common.{◌≡◌, ℕ, zero, suc, ◌+◌, ◌-◌, ◌<◌, ◌≤◌, ◌⊎◌, List, get_or, sym, refl, ap, ◌∙◌, ap₂, inl, inr, le_of_suc-le-suc, eq-or-lt_of_le, add-one, arith}
+use Rattle.std.proofs.Common.{◌≡◌, ℕ, zero, suc, ◌+◌, ◌-◌, ◌<◌, ◌≤◌, ◌⊎◌, List, length, take, get_or, sym, refl, ap, ◌∙◌, ap₂, inl, inr, le_of_suc-le-suc, eq-or-lt_of_le, add-one, arith}
+use Rattle.std.proofs.lemmas.List.{length-take-le, get_or-take}
 use Rattle.field.specs.Laws.{Group, Ring, FieldLaws}
 use Rattle.field.specs.Sums.{sum, pow, polynomial, word_value}
 use Rattle.field.proofs.Algebra.{add_zero, zero-times}
@@ -48,9 +49,9 @@ module _ {F : Type 0} (g : Group F) (r : Ring F) (laws : FieldLaws g r) where
           ih (le_of_suc-le-suc q)
           ∙ sym (ap (λ z. polynomial g r n v x ⊕ z) (ap (λ z. z ⊗ pow r x n) (h n (le_of_suc-le-suc q)) ∙ zero-times g r laws (pow r x n)) ∙ add_zero g r laws (polynomial g r n v x))
 
-  -- the roots of a row of degree d are those of all its coefficients
-  pub found_all : (v : List F) (d n : ℕ) (xs : List F) (m : ℕ) (found : List ℕ) (count : ℕ) → Monic g r d v → d < n → Found g r v (d + 1) xs m found count → Found g r v n xs m found count
-  found_all v d n xs m found count monic l f = record {
+  -- the roots of a row of degree d are those of its coefficients up to there
+  pub found_all : (v : List F) (d n : ℕ) (xs : List F) (m : ℕ) (found : List ℕ) (count : ℕ) → Monic g r d v → d < n → n ≤ length v → Found g r (take (d + 1) v) (length (take (d + 1) v)) xs m found count → Found g r v n xs m found count
+  found_all v d n xs m found count monic l long f = record {
     small = f.small;
     within = f.within;
     ascend = f.ascend;
@@ -58,5 +59,11 @@ module _ {F : Type 0} (g : Group F) (r : Ring F) (laws : FieldLaws g r) where
     all = λ i h e. f.all i h (same (get_or xs i 𝟎) ∙ e);
   }
     where
-      same : (x : F) → row_value g r (d + 1) v x ≡ row_value g r n v x
-      same x = low_value (λ j. get_or v j 𝟎) x (d + 1) n (omega arith) (λ j h. monic.1 j (omega arith))
+      low : List F
+      low = take (d + 1) v
+
+      same : (x : F) → row_value g r (length low) low x ≡ row_value g r n v x
+      same x =
+          ap (λ k. row_value g r k low x) (length-take-le (d + 1) v (omega arith))
+          ∙ sum_same g (d + 1) (λ j. get_or low j 𝟎 ⊗ pow r x j) (λ j. get_or v j 𝟎 ⊗ pow r x j) (λ j h. ap (λ z. z ⊗ pow r x j) (get_or-take (d + 1) v j 𝟎 h))
+          ∙ low_value (λ j. get_or v j 𝟎) x (d + 1) n (omega arith) (λ j h. monic.1 j (omega arith))

@@ -1,5 +1,6 @@
 -- Lemmas for a stage of the elimination.
-use Rattle.std.proofs.Common.{◌≡◌, ℕ, ◌+◌, ◌-◌, ◌<◌, ◌≤◌, ◌⊎◌, List, length, get_or, set, replicate, sym, ap, ◌∙◌, subst, inl, inr, eq-or-lt_of_le, arith, get_or-set_other, get_or-set_same}
+use Rattle.std.proofs.Common.{◌≡◌, ◌≢◌, ℕ, ◌+◌, ◌-◌, ◌<◌, ◌≤◌, ◌⊎◌, Option, Some, None, MatchOption, List, length, get_or, set, replicate, sym, ap, ◌∙◌, subst, subst₂, inl, inr, eq-or-lt_of_le, arith, get_or-set_other, get_or-set_same}
+use Rattle.std.specs.List.{AllWithin, HoldsAt}
 use native.Mathlib.Decide.{dec_lt, ℕ_discrete}
 use lib.ListN.{length-replicate, get_or-replicate, get_or-eq_default}
 use Rattle.field.specs.Laws.{Group, Ring}
@@ -21,6 +22,22 @@ module _ {F : Type 0} (g : Group F) (r : Ring F) where
       go : (m ≡ k) ⊎ (m < k) → applied g r v s m n ≡ g.zero
       go (inl q) = ap (λ z. applied g r v s z n) q ∙ e
       go (inr q) = h m q
+
+  -- the first row that does not annihilate the place k, or none
+  pub first_row : (rows : List (Row F)) (s : List F) (k n : ℕ) (found : Option ℕ)
+      → MatchOption found (AllWithin (λ x. applied g r x.coefficients s k n ≡ g.zero) rows 0 (length rows))
+      (λ p. (p < length rows) × HoldsAt (λ x. applied g r x.coefficients s k n ≢ g.zero) rows p × AllWithin (λ x. applied g r x.coefficients s k n ≡ g.zero) rows 0 p)
+      → MatchOption found ((i : ℕ) → i < length rows → applied g r (row_at rows i).coefficients s k n ≡ g.zero)
+      (λ p. (p < length rows) × (applied g r (row_at rows p).coefficients s k n ≢ g.zero) × ((i : ℕ) → i < p → applied g r (row_at rows i).coefficients s k n ≡ g.zero))
+  first_row rows s k n None h = λ i l. h i blank (omega arith) l
+  first_row rows s k n (Some p) h = (h.0, h.1 blank, λ i l. h.2 i blank (omega arith) l)
+
+  -- where each row annihilates the place k, any of them may go
+  pub idle_stage : (rows : List (Row F)) (m k n : ℕ) (s : List F) → Stage g r rows m s n k → ((i : ℕ) → i < m → applied g r (row_at rows i).coefficients s k n ≡ g.zero) → Stage g r rows (m - 1) s n (k + 1)
+  idle_stage rows m k n s st all = record {
+    candidate = λ t h. (let o = st.candidate t (omega arith) in record { small = o.small; monic = o.monic; annihilates = annihilates_more (row_at rows t).coefficients s n k o.annihilates (all t (omega arith)) });
+    ascend = λ i j h q. st.ascend i j h (omega arith);
+  }
 
   pub next_stage : (old rows : List (Row F)) (m p k n : ℕ) (s : List F) → p < m → Stage g r old m s n k
       → ((i : ℕ) → i < p → applied g r (row_at old i).coefficients s k n ≡ g.zero)
@@ -51,3 +68,7 @@ module _ {F : Type 0} (g : Group F) (r : Ring F) where
       go : (j : ℕ) → Dec (j < 16) → get_or (replicate 16 z) j g.zero ≡ g.zero
       go j (yes q) = get_or-replicate 16 j z g.zero q ∙ ez
       go j (no q) = get_or-eq_default (replicate 16 z) g.zero {n = j} (rw length-replicate (let k : 16 ≤ j = omega arith in k))
+
+  -- the row found among n rows, where n is the reach and one
+  pub row_at_reach : (s : List F) (n reach : ℕ) (row : Row F) → n ≡ reach + 1 → Candidate g r s n (n - 1) row → Candidate g r s (reach + 1) reach row
+  row_at_reach s n reach row e is = subst₂ (λ a b. Candidate g r s a b row) e (let q : n - 1 ≡ reach = omega arith in q) is

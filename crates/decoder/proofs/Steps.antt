@@ -1,15 +1,11 @@
--- What one turn of each loop does to the definition that the loop computes.
-use Rattle.std.proofs.Common.{◌≡◌, ℕ, ◌+◌, ◌<◌, ◌≤◌, ◌⊎◌, List, length, get_or, set, sym, ap, ◌∙◌, subst, inl, inr, eq-or-lt_of_le, add-one, arith, get_or-set_other, get_or-set_same, eq-eqb, ne_eqb}
-use Rattle.field.specs.Laws.{Group, Ring, FieldLaws}
+-- What one turn of a loop does to the definition that the loop computes.
+use Rattle.std.proofs.Common.{◌≡◌, ℕ, ◌+◌, ◌<◌, ◌≤◌, ◌⊎◌, List, length, get_or, set, sym, ap, ◌∙◌, subst, inl, inr, eq-or-lt_of_le, add-one, arith, get_or-set_other, get_or-set_same}
+use Rattle.field.specs.Laws.{Group, Ring}
 use Rattle.field.specs.Sums.{pow}
 use Rattle.decoder.specs.Words.{row_value, word_syndrome}
-use Rattle.decoder.specs.Errors.{Found, remaining, dropped, gaps, error_value, Subtracted}
+use Rattle.decoder.specs.Errors.{Found, error_value, Subtracted}
 
 module _ {F : Type 0} (g : Group F) (r : Ring F) where
-  -- (a x^n) x = a x^(n+1)
-  pub term_next : FieldLaws g r → (a x : F) (n : ℕ) → r.times (r.times a (pow r x n)) x ≡ r.times a (pow r x (n + 1))
-  term_next laws a x n = rw add-one (laws.assoc a (pow r x n) x ∙ ap (r.times a) (laws.comm (pow r x n) x))
-
   pub found_no : (v : List F) (d : ℕ) (xs : List F) (i : ℕ) (found : List ℕ) (count : ℕ) → Found g r v d xs i found count → (row_value g r d v (get_or xs i g.zero) ≡ g.zero → ⊥) → Found g r v d xs (i + 1) found count
   found_no v d xs i found count f h = record {
     small = omega (arith, f.small);
@@ -49,22 +45,10 @@ module _ {F : Type 0} (g : Group F) (r : Ring F) where
       go j q (inl w) = (count, (let z : count < count + 1 = omega arith in z), at_top ∙ sym w)
       go j q (inr w) = let a = f.all j w q in (a.0, (let z : a.0 < count + 1 = omega (arith, a.1) in z), at_lower a.0 a.1 ∙ a.2)
 
-  pub remaining_skip : (xs : List F) (s : ℕ → F) (j l k : ℕ) → l ≡ j → remaining g r xs s j (l + 1) k ≡ remaining g r xs s j l k
-  remaining_skip xs s j l k e = rw (add-one, eq-eqb l j e)
-
-  pub remaining-drop : (xs : List F) (s : ℕ → F) (j l k : ℕ) → (l ≡ j → ⊥) → remaining g r xs s j (l + 1) k ≡ dropped g r (get_or xs l g.zero) (remaining g r xs s j l) k
-  remaining-drop xs s j l k e = rw (add-one, ne_eqb l j e)
-
-  pub gaps_skip : (xs : List F) (j l : ℕ) → l ≡ j → gaps g r xs j (l + 1) ≡ gaps g r xs j l
-  gaps_skip xs j l e = rw (add-one, eq-eqb l j e)
-
-  pub gaps_more : (xs : List F) (j l : ℕ) → (l ≡ j → ⊥) → gaps g r xs j (l + 1) ≡ r.times (gaps g r xs j l) (g.plus (get_or xs j g.zero) (g.minus (get_or xs l g.zero)))
-  gaps_more xs j l e = rw (add-one, ne_eqb l j e)
-
   pub syndrome_next : (w xs : List F) (k n : ℕ) → g.plus (word_syndrome g r w xs k n) (r.times (get_or w n g.zero) (pow r (get_or xs n g.zero) k)) ≡ word_syndrome g r w xs k (n + 1)
   syndrome_next w xs k n = rw add-one
 
-  -- 𝟏 place more
+  -- one place more
   pub subtracted_next : (old : List F) (found : List ℕ) (xs s : List F) (m j : ℕ) (out : List F) (y : F) → Subtracted g r old found xs s m j out → j < m
       → ((t u : ℕ) → t < u → u < m → get_or found t 0 < get_or found u 0) → get_or found j 0 < length out
       → y ≡ g.plus (get_or out (get_or found j 0) g.zero) (g.minus (error_value g r xs (λ k. get_or s k g.zero) m j))

@@ -1,5 +1,5 @@
 // Finds a locator: a monic polynomial of low degree that annihilates the syndromes.
-ghost use Rattle.std.specs.Prelude.{◌≡◌, ℕ, ◌+◌, ◌-◌, ◌*◌, ◌<◌, ◌≤◌, length, ◌≢◌};
+ghost use Rattle.std.specs.Prelude.{◌≡◌, ℕ, ◌+◌, ◌-◌, ◌*◌, ◌<◌, ◌≤◌, length, ◌≢◌, MatchBool, MatchOption};
 ghost use Rattle.decoder.specs.Elimination.{row_at, Candidate, Stage, Powers};
 ghost use Rattle.decoder.specs.Words.{applied, Added, Monic};
 
@@ -12,119 +12,126 @@ pub struct Row<F> {
     pub coefficients: [F; 16],
 }
 
-// The first n coefficients v, applied to the syndromes s from the place k on.
-fn apply<F: Field + Copy>(v: &[F; 16], s: &[F], k: usize, n: usize) -> F
-    requires { (n ≤ 16) × (k + n ≤ length s.now) }
-    ensures { result ≡ applied F.Adds.group F.Field.ring v.now s.now k n }
-{
-    let mut sum = F::zero();
-    for j in 0..n {
-        sum = sum.add(v[j].mul(s[k + j]));
+// The n syndromes from the place k on, to which rows of n coefficients are applied.
+#[derive(Drop)]
+struct Window<'a, F> {
+    s: &'a [F],
+    k: usize,
+    n: usize,
+    ghost fits: { (n ≤ 16) × (k + n ≤ length s.now) },
+}
+
+impl<F: Field + Copy> Row<F> {
+    // x to the power i.
+    fn power(i: usize) -> Row<F>
+        requires { i < 16 }
+        ensures degree { result.degree ≡ i }
+        ensures monic { Monic F.Adds.group F.Field.ring i result.coefficients }
+    {
+        let mut coefficients = [F::zero(); 16];
+        coefficients[i] = F::unit();
+        Row {
+            degree: i,
+            coefficients,
+        }
     }
-    sum
+
+    // The sum of the window's syndromes, each times its coefficient.
+    fn apply(&self, window: &Window<'_, F>) -> F
+        ensures { result ≡ applied F.Adds.group F.Field.ring self.now.coefficients window.now.s.now window.now.k window.now.n }
+    {
+        let mut sum = F::zero();
+        for (a, y) in self.coefficients[..window.n]
+            .iter()
+            .zip(&window.s[window.k..])
+        {
+            sum = sum.add(a.mul(*y));
+        }
+        sum
+    }
+
+    // The row less that multiple of the pivot which makes it annihilate the window too.
+    // The inverse of what the pivot leaves there is given.
+    fn reduce(&self, pivot: &Row<F>, over: F, window: &Window<'_, F>) -> Row<F>
+        requires row { Candidate F.Adds.group F.Field.ring window.now.s.now window.now.n window.now.k self.now }
+        requires pivot { Candidate F.Adds.group F.Field.ring window.now.s.now window.now.n window.now.k pivot.now }
+        requires lower { pivot.now.degree < self.now.degree }
+        requires remains { applied F.Adds.group F.Field.ring pivot.now.coefficients window.now.s.now window.now.k window.now.n ≢ F.Adds.group.zero }
+        requires inverse { over ≡ F.Field.ring.over (applied F.Adds.group F.Field.ring pivot.now.coefficients window.now.s.now window.now.k window.now.n) }
+        ensures degree { result.degree ≡ self.now.degree }
+        ensures candidate { Candidate F.Adds.group F.Field.ring window.now.s.now window.now.n (window.now.k + 1) result }
+    {
+        let a = self.apply(window);
+        let q = a.mul(over).neg();
+        let coefficients = add_times(self.coefficients, &pivot.coefficients, q);
+        Row {
+            degree: self.degree,
+            coefficients,
+        }
+    }
 }
 
 // The coefficients v and q times the coefficients p.
 fn add_times<F: Field + Copy>(v: [F; 16], p: &[F; 16], q: F) -> [F; 16]
-    ensures size { length result ≡ 16 }
-    ensures added { Added F.Adds.group F.Field.ring v p.now q result 16 }
+    ensures { Added F.Adds.group F.Field.ring v p.now q result 16 }
 {
     let mut w = v;
-    for j in 0..16 {
-        w[j] = w[j].add(q.mul(p[j]));
+    // By index: of a closure that captures, `array::from_fn` says too little, and a zip over `w.iter_mut()` nothing.
+    for (j, y) in w.iter_mut().enumerate() {
+        *y = y.add(q.mul(p[j]));
     }
     w
 }
 
-// The row less that multiple of the pivot which makes it annihilate the place k too.
-// The inverse of what the pivot leaves there is given.
-fn reduce<F: Field + Copy>(
-    row: &Row<F>,
-    pivot: &Row<F>,
-    over: F,
-    s: &[F],
-    k: usize,
-    n: usize,
-) -> Row<F>
-    requires bounds { (n ≤ 16) × (k + n ≤ length s.now) }
-    requires row { Candidate F.Adds.group F.Field.ring s.now n k row.now }
-    requires pivot { Candidate F.Adds.group F.Field.ring s.now n k pivot.now }
-    requires lower { pivot.now.degree < row.now.degree }
-    requires remains { applied F.Adds.group F.Field.ring pivot.now.coefficients s.now k n ≢ F.Adds.group.zero }
-    requires inverse { over ≡ F.Field.ring.over (applied F.Adds.group F.Field.ring pivot.now.coefficients s.now k n) }
-    ensures degree { result.degree ≡ row.now.degree }
-    ensures candidate { Candidate F.Adds.group F.Field.ring s.now n (k + 1) result }
+// The first of the rows that does not annihilate the window.
+fn first_open<F: Field + Copy>(rows: &[Row<F>], window: &Window<'_, F>) -> Option<usize>
+    ensures { MatchOption result ((i : ℕ) → i < length rows.now → applied F.Adds.group F.Field.ring (row_at rows.now i).coefficients window.now.s.now window.now.k window.now.n ≡ F.Adds.group.zero)
+        (λ p. (p < length rows.now) × (applied F.Adds.group F.Field.ring (row_at rows.now p).coefficients window.now.s.now window.now.k window.now.n ≢ F.Adds.group.zero)
+        × ((i : ℕ) → i < p → applied F.Adds.group F.Field.ring (row_at rows.now i).coefficients window.now.s.now window.now.k window.now.n ≡ F.Adds.group.zero)) }
 {
-    let a = apply(&row.coefficients, s, k, n);
-    let q = a.mul(over).neg();
-    let coefficients = add_times(row.coefficients, &pivot.coefficients, q);
-    Row {
-        degree: row.degree,
-        coefficients,
-    }
+    rows.iter().position(
+        |row| -> bool
+            ensures { MatchBool result (applied F.Adds.group F.Field.ring row.now.coefficients window.entry.now.s.now window.entry.now.k window.entry.now.n ≢ F.Adds.group.zero) (applied F.Adds.group F.Field.ring row.now.coefficients window.entry.now.s.now window.entry.now.k window.entry.now.n ≡ F.Adds.group.zero) }
+        { !row.apply(window).is_zero() },
+    )
 }
 
-// The first of the first m rows that does not annihilate the place k, or the last of them.
-fn first_open<F: Field + Copy>(rows: &[Row<F>], m: usize, s: &[F], k: usize, n: usize) -> usize
-    requires { (0 < m) × ((m ≤ length rows.now) × ((n ≤ 16) × (k + n ≤ length s.now))) }
-    ensures within { result < m }
-    ensures before { (i : ℕ) → i < result → applied F.Adds.group F.Field.ring (row_at rows.now i).coefficients s.now k n ≡ F.Adds.group.zero }
-    ensures here { result + 1 < m → applied F.Adds.group F.Field.ring (row_at rows.now result).coefficients s.now k n ≢ F.Adds.group.zero }
+// Takes one of the rows away, so that each of the others annihilates the window too; they go to the front.
+fn eliminate<F: Field + Copy>(rows: &mut [Row<F>], window: &Window<'_, F>)
+    requires { Stage F.Adds.group F.Field.ring rows.old (length rows.old) window.now.s.now window.now.n window.now.k }
+    ensures { Stage F.Adds.group F.Field.ring rows.new (length rows.old - 1) window.now.s.now window.now.n (window.now.k + 1) }
 {
-    for i in 0..m - 1 {
-        if !apply(&rows[i].coefficients, s, k, n).is_zero() {
-            return i;
+    if let Some(p) = first_open(rows, window) {
+        let pivot = rows[p];
+        let over = pivot.apply(window).inv();
+        // By index: each row is written one place below that from which it is read.
+        for i in p + 1..rows.len() {
+            rows[i - 1] = rows[i].reduce(&pivot, over, window);
         }
     }
-    m - 1
 }
 
-// Takes one of the first m rows away, so that each of the others annihilates the place k too.
-fn eliminate<F: Field + Copy>(rows: &mut [Row<F>], m: usize, s: &[F], k: usize, n: usize)
-    requires bounds { (0 < m) × ((m ≤ length rows.old) × ((n ≤ 16) × (k + n ≤ length s.now))) }
-    requires rows { Stage F.Adds.group F.Field.ring rows.old m s.now n k }
-    ensures { Stage F.Adds.group F.Field.ring rows.new (m - 1) s.now n (k + 1) }
+// Makes the rows the powers of x.
+fn start<F: Field + Copy>(rows: &mut [Row<F>])
+    requires { length rows.old ≤ 16 }
+    ensures { Powers F.Adds.group F.Field.ring rows.new (length rows.old) }
 {
-    let p = first_open(rows, m, s, k, n);
-    let pivot = rows[p];
-    let over = apply(&pivot.coefficients, s, k, n).inv();
-    for i in p + 1..m {
-        rows[i - 1] = reduce(&rows[i], &pivot, over, s, k, n);
+    for (i, row) in rows.iter_mut().enumerate() {
+        *row = Row::power(i);
     }
 }
 
-// x to the power i.
-fn power_row<F: Field + Copy>(i: usize) -> Row<F>
-    requires { i < 16 }
-    ensures degree { result.degree ≡ i }
-    ensures monic { Monic F.Adds.group F.Field.ring i result.coefficients }
+// A row of degree below the number of rows that annihilates as many places but one. The rows are for the work.
+pub fn locate<F: Field + Copy>(rows: &mut [Row<F>], s: &[F]) -> Row<F>
+    requires rows { (0 < length rows.old) × (length rows.old ≤ 16) }
+    requires syndromes { 2 * (length rows.old - 1) ≤ length s.now }
+    ensures { Candidate F.Adds.group F.Field.ring s.now (length rows.old) (length rows.old - 1) result }
 {
-    let mut coefficients = [F::zero(); 16];
-    coefficients[i] = F::unit();
-    Row {
-        degree: i,
-        coefficients,
-    }
-}
-
-// Makes the first n rows the powers of x below n.
-fn start<F: Field + Copy>(rows: &mut [Row<F>], n: usize)
-    requires { (n ≤ 16) × (n ≤ length rows.old) }
-    ensures { Powers F.Adds.group F.Field.ring rows.new n }
-{
-    for i in 0..n {
-        rows[i] = power_row(i);
-    }
-}
-
-// A row of degree at most the reach that annihilates each place below it. The rows are for the work.
-pub fn locate<F: Field + Copy>(rows: &mut [Row<F>], s: &[F], reach: usize) -> Row<F>
-    requires { (reach < 16) × ((reach < length rows.old) × (2 * reach ≤ length s.now)) }
-    ensures { Candidate F.Adds.group F.Field.ring s.now (reach + 1) reach result }
-{
-    start(rows, reach + 1);
-    for k in 0..reach {
-        eliminate(rows, reach + 1 - k, s, k, reach + 1);
+    let n = rows.len();
+    start(rows);
+    // k is the place to annihilate, and no index.
+    for k in 0..n - 1 {
+        eliminate(&mut rows[..n - k], &Window { s, k, n });
     }
     rows[0]
 }

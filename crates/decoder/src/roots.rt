@@ -7,45 +7,48 @@ use super::syndromes::clear;
 use field::Field;
 
 // Multiplies each value by its point, and adds the coefficient c.
+// Points and values stay two slices here and below, as `evaluate` takes them of its callers.
 fn step<F: Field + Copy>(values: &mut [F], points: &[F], c: F)
     requires { length points.now ≤ length values.old }
     ensures { Stepped F.Adds.group F.Field.ring values.old points.now c (length points.now) values.new }
 {
-    for i in 0..points.len() {
-        values[i] = values[i].mul(points[i]).add(c);
+    // By index: a zip over `values.iter_mut()` says nothing of what is written.
+    for (i, x) in points.iter().enumerate() {
+        values[i] = values[i].mul(*x).add(c);
     }
 }
 
-// The values at the points of the first d coefficients of v, lowest first.
+// The values at the points of the polynomial with the coefficients v, lowest first.
 // The lengths are the caller's to see to.
-pub fn evaluate<F: Field + Copy>(v: &[F], d: usize, points: &[F], values: &mut [F])
-    requires { (d ≤ length v.now) × (length points.now ≤ length values.old) }
-    ensures { Values F.Adds.group F.Field.ring (falling F.Adds.group v.now d) d points.now (length points.now) values.new }
+pub fn evaluate<F: Field + Copy>(v: &[F], points: &[F], values: &mut [F])
+    requires { length points.now ≤ length values.old }
+    ensures { Values F.Adds.group F.Field.ring (falling F.Adds.group v.now (length v.now)) (length v.now) points.now (length points.now) values.new }
 {
     clear(values);
-    for j in 0..d {
-        step(values, points, v[d - 1 - j]);
+    for c in v.iter().rev() {
+        step(values, points, *c);
     }
 }
 
-// Lists the places whose points are roots, and counts them; the values are for the work.
-pub fn find<F: Field + Copy>(
+// Lists the places whose points are roots; the values are for the work.
+pub fn find<'a, F: Field + Copy>(
     v: &[F],
-    d: usize,
     points: &[F],
     values: &mut [F],
-    found: &mut [usize],
-) -> usize
-    requires { (d ≤ length v.now) × ((length points.now ≤ length values.old) × (length points.now ≤ length found.old)) }
-    ensures { Found F.Adds.group F.Field.ring v.now d points.now (length points.now) found.new result }
+    found: &'a mut [usize],
+) -> &'a [usize]
+    requires { (length points.now ≤ length values.old) × (length points.now ≤ length found.old) }
+    ensures { Found F.Adds.group F.Field.ring v.now (length v.now) points.now (length points.now) result.now (length result.now) }
 {
-    evaluate(v, d, points, values);
+    let values = &mut values[..points.len()];
+    evaluate(v, points, values);
+    // By a count: a zip over `found.iter_mut()` says nothing of what is written.
     let mut count = 0;
-    for i in 0..points.len() {
-        if values[i].is_zero() {
+    for (i, y) in values.iter().enumerate() {
+        if y.is_zero() {
             found[count] = i;
             count += 1;
         }
     }
-    count
+    &found[..count]
 }

@@ -10,8 +10,8 @@ fn add_term<F: Field + Copy>(s: &mut [F], a: F, x: F)
     ensures { TermAdded F.Adds.group F.Field.ring s.old a x (length s.old) s.new }
 {
     let mut term = a;
-    for k in 0..s.len() {
-        s[k] = s[k].add(term);
+    for y in s.iter_mut() {
+        *y = y.add(term);
         term = term.mul(x);
     }
 }
@@ -20,41 +20,30 @@ fn add_term<F: Field + Copy>(s: &mut [F], a: F, x: F)
 pub fn clear<F: Field + Copy>(s: &mut [F])
     ensures { (k : ℕ) → k < length s.old → slice_index_or s.new k F.Adds.group.zero ≡ F.Adds.group.zero }
 {
-    for k in 0..s.len() {
-        s[k] = F::zero();
+    for y in s.iter_mut() {
+        *y = F::zero();
     }
 }
 
 // As many syndromes of the word at the points as s has room for.
+// Word and points stay two slices: one list of points serves all words of a caller.
 pub fn compute<F: Field + Copy>(word: &[F], points: &[F], s: &mut [F])
     requires { length points.now ≡ length word.now }
     ensures { Syndromes F.Adds.group F.Field.ring word.now points.now (length word.now) (length s.old) s.new }
 {
     clear(s);
-    for i in 0..word.len() {
-        add_term(s, word[i], points[i]);
+    for (a, x) in word.iter().zip(points) {
+        add_term(s, *a, *x);
     }
 }
 
-// Whether the first m are zero.
-fn all_zero<F: Field + Copy>(s: &[F], m: usize) -> bool
-    requires { m ≤ length s.now }
-    ensures { MatchBool result ((k : ℕ) → k < m → slice_index_or s.now k F.Adds.group.zero ≡ F.Adds.group.zero) (((k : ℕ) → k < m → slice_index_or s.now k F.Adds.group.zero ≡ F.Adds.group.zero) → ⊥) }
-{
-    for k in 0..m {
-        if !s[k].is_zero() {
-            return false;
-        }
-    }
-    true
-}
-
-// Whether the first m syndromes of the word are zero; s is for the work.
+// Whether the first m syndromes of the word are zero, a question, so a bool; s is for the work, and may be longer.
 // The lengths are the caller's to see to.
 pub fn is_codeword<F: Field + Copy>(word: &[F], points: &[F], m: usize, s: &mut [F]) -> bool
     requires { (length points.now ≡ length word.now) × (m ≤ length s.old) }
     ensures { MatchBool result (Codeword F.Adds.group F.Field.ring points.now (length word.now) m word.now) (Codeword F.Adds.group F.Field.ring points.now (length word.now) m word.now → ⊥) }
 {
+    let s = &mut s[..m];
     compute(word, points, s);
-    all_zero(s, m)
+    s.iter().all(|y| y.is_zero())
 }

@@ -1,4 +1,3 @@
 -- The field of 1,024 elements.
 mod PowerLists
-mod Rows
 mod Logarithms

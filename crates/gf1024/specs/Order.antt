@@ -1,9 +1,9 @@
 -- The squares of 2 in the field of 1024: 1023 different numbers.
-use Rattle.std.specs.Prelude.{◌≡◌, ℕ, zero, suc, ◌+◌, ◌-◌, ◌*◌, ◌/◌, ◌%◌, ◌<◌, Bool, true, not, T, ◌==◌, ◌≢◌, refl}
+use Rattle.std.specs.Prelude.{◌≡◌, ℕ, zero, suc, ◌+◌, ◌-◌, ◌*◌, ◌/◌, ◌%◌, ◌<◌, Bool, ◌&&◌, true, not, T, ◌==◌, ◌≢◌, refl}
 use Rattle.std.proofs.Common.{sym, ◌∙◌, ap, not-suc-le-zero, le_of_suc-le-suc, zero-add, suc-add, arith, T_not}
 use Rattle.std.proofs.Math.Dec.{eqb_refl}
 use Rattle.gf1024.specs.Product.{step, shifted}
-use Rattle.gf1024.specs.Tests.{both, both_left, both_right}
+use Rattle.gf1024.specs.Tests.{both_left, both_right}
 
 pub shifted_add : (m n a : ℕ) → shifted (m + n) a ≡ shifted n (shifted m a)
 shifted_add zero n a = ap (λ k. shifted k a) (zero-add n)
@@ -11,7 +11,7 @@ shifted_add (suc m) n a = ap (λ k. shifted k a) (suc-add m n) ∙ shifted_add m
 
 never : ℕ → ℕ → Bool
 never zero a = true
-never (suc n) a = both (not (a == 1)) (never n (step 9 1033 a))
+never (suc n) a = not (a == 1) && never n (step 9 1033 a)
 
 never_at : (n a : ℕ) → T (never n a) → (k : ℕ) → k < n → shifted k a ≢ 1
 unfolding never

@@ -1,5 +1,5 @@
 // The field of 1,024 elements: polynomials over the field of two elements modulo x^10 + x^3 + 1.
-#![tactic(auto)]
+#![tactic(auto, using(crate::specs::ElementsLemmas::same))]
 
 ghost use Rattle.std.specs.Prelude.{◌≡◌};
 ghost use Rattle.field.specs.Sums.{pow};
@@ -11,7 +11,7 @@ mod tables;
 
 pub use element::Element;
 
-// The element of the lowest ten bits.
+// The element of the lowest ten bits. It drops the others, so it is no `From`.
 pub fn from_bits(bits: u16) -> Element
     ensures { result ≡ element bits }
 {
@@ -23,7 +23,5 @@ pub fn alpha_power(i: usize) -> Element
     ensures value { result ≡ pow ring alpha i }
     ensures laws { Laws }
 {
-    Element {
-        value: tables::exp(i % 1023),
-    }
+    tables::exp(i % 1023)
 }

@@ -3,7 +3,7 @@ ghost use Rattle.gf1024.specs.Field.{group, ring};
 ghost use Rattle.gf1024.specs.ElementsLemmas.{add_laws, field_laws};
 
 use super::element::Element;
-use super::tables;
+use super::tables::{exp, log};
 use field::{Adds, Field};
 
 impl Adds for Element {
@@ -26,7 +26,7 @@ impl Adds for Element {
     }
 
     fn is_zero(self) -> bool {
-        self.value == 0
+        self == Element::zero()
     }
 }
 
@@ -40,14 +40,16 @@ impl Field for Element {
     }
 
     fn mul(self, other: Element) -> Element {
-        Element {
-            value: tables::mul(self.value, other.value),
+        match (log(self), log(other)) {
+            (Some(i), Some(j)) => exp(i + j),
+            _ => Element::zero(),
         }
     }
 
     fn inv(self) -> Element {
-        Element {
-            value: tables::inv(self.value),
+        match log(self) {
+            Some(i) => exp(1023 - i),
+            None => self,
         }
     }
 }

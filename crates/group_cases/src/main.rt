@@ -3,7 +3,7 @@
 #![tactic(auto)]
 
 use anyhow::anyhow;
-use blocks::{Descrambler, Group, Reader, Record, Refusal, Scrambler};
+use blocks::{BadHeader, Descrambler, Group, Reader, Record, Refusal, Scrambler};
 use std::alloc::Global;
 use std::io::{BufRead, BufReader};
 
@@ -22,6 +22,7 @@ impl Count {
     }
 }
 
+// A digit of an octet; any other character, which the library would refuse, counts as 0.
 fn digit(c: u8) -> u8 {
     match c {
         b'0'..=b'9' => c - b'0',
@@ -32,43 +33,31 @@ fn digit(c: u8) -> u8 {
 
 // The octets of a text of hexadecimal digits; `-` stands for none.
 fn octets(heap: Global, text: &str) -> anyhow::Result<Vec<u8>> {
+    let (pairs, _) = text.as_bytes().as_chunks::<2>();
     let mut out = Vec::new(heap);
-    for pair in text.as_bytes().chunks(2) {
-        if pair.len() == 2 {
-            out.push((digit(pair[0]) % 16) * 16 + digit(pair[1]) % 16)?;
-        }
+    for [high, low] in pairs {
+        out.push((digit(*high) << 4) | digit(*low))?;
     }
     Ok(out)
 }
 
-fn hex(heap: Global, octets: &[u8]) -> anyhow::Result<String> {
-    let mut text = String::new(heap);
-    for x in octets {
-        let x = *x;
-        text.push_str(format!(in heap; "{x:02x}")?.as_str())?;
-    }
-    Ok(text)
-}
-
-// A refusal as number:place.
+// A refusal as number:place, which is how the cases have it, and not as it is displayed.
 fn refusal(heap: Global, r: Refusal) -> anyhow::Result<String> {
     let number = r.number();
     let place = r.place();
     Ok(format!(in heap; "{number}:{place}")?)
 }
 
-fn write(heap: Global, records: &[u8]) -> anyhow::Result<String> {
-    let mut group = [0xAAu8; 33];
-    match blocks::write_group(records, &mut group) {
-        Ok(()) => hex(heap, &group),
-        Err(e) => refusal(heap, e),
-    }
-}
-
-fn read(heap: Global, group: &[u8]) -> anyhow::Result<String> {
-    let mut records = [0xAAu8; 36];
-    match blocks::read_group(group, &mut records) {
-        Ok(()) => hex(heap, &records),
+// What a call leaves in a buffer, or its refusal.
+fn filled<F: FnOnce(&mut [u8]) -> Result<(), Refusal>>(
+    heap: Global,
+    buffer: &mut [u8],
+    fill: F,
+) -> anyhow::Result<String>
+    requires { F.IsAlwaysCallable fill }
+{
+    match fill(buffer) {
+        Ok(()) => Ok(hex::encode(heap, buffer)?),
         Err(e) => refusal(heap, e),
     }
 }
@@ -83,17 +72,26 @@ fn sound(heap: Global, records: &[u8]) -> anyhow::Result<String> {
 
 fn record(heap: Global, index: usize, r: Record) -> anyhow::Result<String> {
     match r {
-        Record::Data(body) => Ok(format!(in heap; "{index}d{};", hex(heap, body)?.as_str())?),
-        Record::Control(body) => Ok(format!(in heap; "{index}c{};", hex(heap, body)?.as_str())?),
-        Record::BadHeader(true, body) => Ok(format!(in heap;
+        Record::Data(body) => Ok(format!(in heap;
+            "{index}d{};",
+            hex::encode(heap, body)?.as_str()
+        )?),
+        Record::Control(body) => Ok(format!(in heap;
+            "{index}c{};",
+            hex::encode(heap, body)?.as_str()
+        )?),
+        Record::BadHeader(BadHeader::Ones, body) => Ok(format!(in heap;
             "{index}t{};",
-            hex(heap, body)?.as_str()
+            hex::encode(heap, body)?.as_str()
         )?),
-        Record::BadHeader(false, body) => Ok(format!(in heap;
+        Record::BadHeader(BadHeader::Zeros, body) => Ok(format!(in heap;
             "{index}z{};",
-            hex(heap, body)?.as_str()
+            hex::encode(heap, body)?.as_str()
         )?),
-        Record::Note(body) => Ok(format!(in heap; "{index}n{};", hex(heap, body)?.as_str())?),
+        Record::Note(body) => Ok(format!(in heap;
+            "{index}n{};",
+            hex::encode(heap, body)?.as_str()
+        )?),
     }
 }
 
@@ -115,77 +113,63 @@ fn walk(heap: Global, buffer: &[u8]) -> anyhow::Result<String> {
     Ok(text)
 }
 
-fn word(octets: &[u8]) -> u64 {
-    let mut x = 0u64;
-    for o in octets.iter().rev() {
-        x = (x << 8) | u64::from(*o);
-    }
-    x
-}
-
-fn group_of(octets: &[u8]) -> Option<Group> {
-    if octets.len() != 33 {
-        return None;
-    }
-    Some(Group {
-        first: octets[0] % 2 == 1,
-        parts: [
-            word(&octets[1..9]),
-            word(&octets[9..17]),
-            word(&octets[17..25]),
-            word(&octets[25..33]),
-        ],
-    })
-}
-
-fn group_text(heap: Global, group: Group) -> anyhow::Result<String> {
-    let Group { first, parts } = group;
-    let [a, b, c, d] = parts;
-    let a = hex(heap, &a.to_le_bytes())?;
-    let b = hex(heap, &b.to_le_bytes())?;
-    let c = hex(heap, &c.to_le_bytes())?;
-    let d = hex(heap, &d.to_le_bytes())?;
-    let first = u8::from(first);
-    Ok(format!(in heap; "{first:02x}{a}{b}{c}{d}")?)
-}
-
-// Groups of 33 octets, scrambled one after the other.
-fn scramble(heap: Global, start: u64, groups: &[u8]) -> anyhow::Result<String> {
-    let mut scrambler = match Scrambler::new(start) {
-        Ok(s) => s,
-        Err(e) => return refusal(heap, e),
-    };
+// Groups of 33 octets, each passed through `pass` one after the other.
+fn passed<F: FnMut(Group) -> Group>(
+    heap: Global,
+    groups: &[u8],
+    mut pass: F,
+) -> anyhow::Result<String>
+    requires { F.IsAlwaysCallable pass }
+{
     let mut text = String::new(heap);
-    for octets in groups.chunks(33) {
-        if let Some(group) = group_of(octets) {
-            text.push_str(group_text(heap, scrambler.scramble(group))?.as_str())?;
-        }
+    let (groups, _) = groups.as_chunks::<33>();
+    for octets in groups {
+        let octets = <[u8; 33]>::from(pass(Group::from(octets)));
+        text.push_str(hex::encode(heap, octets)?.as_str())?;
     }
     Ok(text)
+}
+
+// One function for each direction, since they make two types.
+fn scramble(heap: Global, start: u64, groups: &[u8]) -> anyhow::Result<String> {
+    match Scrambler::new(start) {
+        Ok(mut scrambler) => passed(heap, groups, |group| scrambler.scramble(group)),
+        Err(e) => refusal(heap, e),
+    }
 }
 
 fn descramble(heap: Global, start: u64, groups: &[u8]) -> anyhow::Result<String> {
-    let mut descrambler = match Descrambler::new(start) {
-        Ok(d) => d,
-        Err(e) => return refusal(heap, e),
-    };
-    let mut text = String::new(heap);
-    for octets in groups.chunks(33) {
-        if let Some(group) = group_of(octets) {
-            text.push_str(group_text(heap, descrambler.descramble(group))?.as_str())?;
-        }
+    match Descrambler::new(start) {
+        Ok(mut descrambler) => passed(heap, groups, |group| descrambler.descramble(group)),
+        Err(e) => refusal(heap, e),
     }
-    Ok(text)
 }
 
+// A start value in octets, the lowest first. The library takes eight, and a case may have another number of them.
+fn start_of(octets: &[u8]) -> u64 {
+    octets
+        .iter()
+        .rev()
+        .fold(0, |x, octet| (x << 8) | u64::from(*octet))
+}
+
+// The first word of a case says what to try.
 fn answer(heap: Global, what: &str, start: &[u8], input: &[u8]) -> anyhow::Result<String> {
     match what {
-        "write" => write(heap, input),
-        "read" => read(heap, input),
+        "write" => filled(
+            heap,
+            &mut [0xAA; 33],
+            |group| blocks::write_group(input, group),
+        ),
+        "read" => filled(
+            heap,
+            &mut [0xAA; 36],
+            |records| blocks::read_group(input, records),
+        ),
         "sound" => sound(heap, input),
         "walk" => walk(heap, input),
-        "scramble" => scramble(heap, word(start), input),
-        "descramble" => descramble(heap, word(start), input),
+        "scramble" => scramble(heap, start_of(start), input),
+        "descramble" => descramble(heap, start_of(start), input),
         _ => Err(anyhow!("unknown case")),
     }
 }

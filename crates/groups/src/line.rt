@@ -1,24 +1,15 @@
 // A group as a line of text.
-ghost use Rattle.std.specs.Prelude.{◌≡◌, ◌<◌};
-ghost use Rattle.groups.specs.Lines.{digit, line_of};
-
-fn digit(n: u8) -> u8
-    requires { n < 16 }
-    ensures { result ≡ digit n }
-{
-    if n < 10 { b'0' + n } else { b'a' - 10 + n }
-}
+ghost use Rattle.std.specs.Prelude.{◌≡◌};
+ghost use Rattle.groups.specs.Lines.{line_of};
 
 // Bit 0, a space, the 32 octets in hexadecimal and a line feed.
 pub fn line(group: &[u8; 33]) -> [u8; 67]
     ensures { result ≡ line_of group.now }
 {
     let mut text = [b'\n'; 67];
-    text[0] = digit(group[0] % 16);
+    hex::encode_to_slice(group, &mut text[..66]).unwrap();
+    // Bit 0 is the low digit of the first octet.
+    text[0] = text[1];
     text[1] = b' ';
-    for i in 0..32usize {
-        text[2 + 2 * i] = digit(group[1 + i] / 16);
-        text[3 + 2 * i] = digit(group[1 + i] % 16);
-    }
     text
 }

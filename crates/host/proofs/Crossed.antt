@@ -1,6 +1,6 @@
 -- Refusals of the calls on words from C.
-use Rattle.std.proofs.Common.{◌≡◌, ℕ, ◌⊎◌, List, length, inl, inr, arith}
-use Rattle.code.specs.Answers.{EncodeRefused}
+use Rattle.std.proofs.Common.{◌≡◌, ℕ, ◌⊎◌, List, length, Result, Ok, Err, IsErrAnd, inl, inr, refl, sym, subst, arith}
+use Rattle.code.specs.Answers.{Encodes, EncodeRefused}
 use Rattle.code.specs.declared.refusal.Refusal.{Refusal}
 use Rattle.code.specs.declared.refusal.Refusal.TheVariants.{Length, Symbol, Reach}
 use Rattle.host.specs.Crossing.{symbols_in}
@@ -19,3 +19,8 @@ pub refused_alike : (message v w : List ℕ) (e : Refusal) → length v ≡ 544 
 refused_alike message v w Length p q r = λ h. r (h.0, p)
 refused_alike message v w (Symbol i) p q r = (r.0, q, r.2)
 refused_alike message v w Reach p q r = r
+
+-- a refusal handed on by `?`
+pub encodes_refused : (message word : List ℕ) (e : Refusal) (answer : Result (Unit {0}) Refusal) → IsErrAnd answer (λ x. x ≡ e) → EncodeRefused message word e → Encodes message word word answer
+encodes_refused message word e (Ok u) h r = absurd h
+encodes_refused message word e (Err x) h r = (refl, subst (EncodeRefused message word) (sym h) r)

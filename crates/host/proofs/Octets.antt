@@ -1,6 +1,8 @@
 -- Symbols in octets.
-use Rattle.std.proofs.Common.{◌≡◌, ℕ, ◌+◌, ◌*◌, ◌/◌, ◌%◌, ◌<◌, true, eqb, ◌≢◌, List, length, get_or, set, ap, ◌∙◌, ap₂, inl, inr, arith, length-set}
-use Rattle.std.proofs.lemmas.List.{ext_get_or, get_or-set_same, get_or-set_other}
+use Rattle.std.proofs.Common.{◌≡◌, ℕ, zero, suc, ◌+◌, ◌*◌, ◌/◌, ◌%◌, ◌<◌, true, eqb, List, [], length, drop, get_or, ap, ◌∙◌, ap₂, add-zero, inl, inr, arith}
+use Rattle.std.proofs.lemmas.List.{ext_get_or, get_or-drop}
+use Rattle.std.proofs.lemmas.Grind.{common_steps}
+use Rattle.std.specs.Simd.{first_chunks}
 use Rattle.std.proofs.lemmas.Bool.{eq-eqb, eqb-true, cases_Bool}
 use Rattle.blocks.specs.Bits.{table}
 use Rattle.blocks.proofs.Scrambles.{length-table, nth-table}
@@ -21,25 +23,18 @@ crossed xs symbols h e =
     ∙ ext_get_or 0 (table n (symbol_at xs)) symbols (length-table n (symbol_at xs)) (λ k l.
     let m : k < n = rw (length-table n (symbol_at xs)) at l in nth-table n (symbol_at xs) k m ∙ e k m)
 
-pub store_before : (xs : List ℕ) (i k a b : ℕ) → k < i → symbol_at (set (set xs (2 * i) a) (2 * i + 1) b) k ≡ symbol_at xs k
-store_before xs i k a b l =
-    let p : 2 * k ≢ 2 * i + 1 = omega arith in
-    let q : 2 * k ≢ 2 * i = omega arith in
-    let r : 2 * k + 1 ≢ 2 * i + 1 = omega arith in
-    let s : 2 * k + 1 ≢ 2 * i = omega arith in
-    ap₂ (λ (u v : ℕ). u + 256 * v)
-    (get_or-set_other (set xs (2 * i) a) (2 * i + 1) (2 * k) b 0 p ∙ get_or-set_other xs (2 * i) (2 * k) a 0 q)
-    (get_or-set_other (set xs (2 * i) a) (2 * i + 1) (2 * k + 1) b 0 r ∙ get_or-set_other xs (2 * i) (2 * k + 1) a 0 s)
+pair_at : (xs : List ℕ) (n k j : ℕ) → k < n → j < 2 → get_or (get_or (first_chunks 2 n xs) k []) j 0 ≡ get_or xs (2 * k + j) 0
+pair_at xs zero k j h l = absurd (omega arith)
+pair_at xs (suc n) zero j h l = grind (arith, common_steps)
+pair_at xs (suc n) (suc k) j h l = pair_at (drop 2 xs) n k j (omega arith) l ∙ get_or-drop 2 xs (2 * k + j) 0 ∙ ap (λ (i : ℕ). get_or xs i 0) (omega arith)
 
-pub store_here : (xs : List ℕ) (i x : ℕ) → 2 * i + 1 < length xs → symbol_at (set (set xs (2 * i) (x % 256)) (2 * i + 1) (x / 256)) i ≡ x
-store_here xs i x h =
-    let p : 2 * i ≢ 2 * i + 1 = omega arith in
-    let l : 2 * i < length xs = omega arith in
-    let m : 2 * i + 1 < length (set xs (2 * i) (x % 256)) = rw length-set h in
-    ap₂ (λ (u v : ℕ). u + 256 * v)
-    (get_or-set_other (set xs (2 * i) (x % 256)) (2 * i + 1) (2 * i) (x / 256) 0 p ∙ get_or-set_same xs (2 * i) (x % 256) 0 l)
-    (get_or-set_same (set xs (2 * i) (x % 256)) (2 * i + 1) (x / 256) 0 m)
-    ∙ omega arith
+-- the number of two octets
+abbrev pub low_first : List ℕ → ℕ
+low_first pair = get_or pair 0 0 + 256 * get_or pair 1 0
+
+pub low_first-pair : (xs : List ℕ) (n k : ℕ) → k < n → low_first (get_or (first_chunks 2 n xs) k []) ≡ symbol_at xs k
+low_first-pair xs n k h =
+    ap₂ (λ (u v : ℕ). u + 256 * v) (pair_at xs n k 0 h (omega arith) ∙ ap (λ (i : ℕ). get_or xs i 0) (add-zero (2 * k))) (pair_at xs n k 1 h (omega arith))
 
 -- a buffer whose symbols are n has 2 n octets
 pub octets_of : (xs : List ℕ) (n : ℕ) → 0 < n → length (symbols_in xs) ≡ n → length xs ≡ 2 * n

@@ -1,8 +1,8 @@
 -- A window passes for at most one lane: the markers of two would differ in at most 3 + 3 nibbles, and they do in 7.
-use Rattle.std.proofs.Common.{◌≡◌, ℕ, ◌+◌, ◌*◌, ◌<◌, ◌≤◌, true, ◌&&◌, ltb, List, [], ◌∷◌, inl, inr, arith}
-use Rattle.std.proofs.lemmas.Bool.{ltb-true, leb-true, and_parts, cases_eq}
+use Rattle.std.proofs.Common.{◌≡◌, ℕ, ◌+◌, ◌*◌, ◌<◌, ◌≤◌, true, List, [], ◌∷◌, inl, inr, arith}
+use Rattle.std.proofs.lemmas.Bool.{cases_eq}
 use Rattle.std.proofs.lemmas.Bool.Decides.{nat_tests}
-use Rattle.lanes.specs.Markers.{nibble, nibble_of, unequal, wrong, shared, own, near, passes}
+use Rattle.lanes.specs.Markers.{nibble, nibble_of, unequal, wrong, own, near, passes}
 use Rattle.lanes.specs.Rates.{Lawful}
 
 by_way_of : (a b c : ℕ) → unequal b c ≤ unequal a b + unequal a c
@@ -20,10 +20,7 @@ triangle v w x (o ∷ os) =
 module _ {lanes pairs : ℕ} {octet : ℕ → ℕ → ℕ} (lawful : Lawful lanes pairs octet) (window : ℕ) where
   passed : (l : ℕ) → passes lanes octet window l ≡ true → (l < lanes) × (wrong (nibble window) (nibble_of (octet l)) own ≤ 3)
   unfolding passes near
-  passed l e =
-      let p = and_parts (ltb l lanes) (near window (octet l) shared && near window (octet l) own) e in
-      let q = and_parts (near window (octet l) shared) (near window (octet l) own) p.1 in
-      (ltb-true l lanes p.0, leb-true (wrong (nibble window) (nibble_of (octet l)) own) 3 q.1)
+  passed l e = grind (arith, nat_tests)
 
   pub at_most_one : (l m : ℕ) → passes lanes octet window l ≡ true → passes lanes octet window m ≡ true → l ≡ m
   at_most_one l m p q = elim (cases_eq l m) [

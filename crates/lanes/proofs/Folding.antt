@@ -2,17 +2,20 @@
 use Rattle.std.proofs.Common.{◌≡◌, ℕ, suc, ◌+◌, ◌*◌, ◌/◌, ◌%◌, ◌^◌, ◌<◌, Bool, true, false, cond, eqb, List, [], ◌∷◌, ◌++◌, sym, refl, ap, ◌∙◌, ap₂, mod-lt, zero-lt-suc, add_comm, div-add-mod', arith}
 use lib.Bits.{bit_and, bit_or, bit_xor, and_shr, or_shr, xor_shr, and_mod, or_mod, xor_mod, and_zero_r}
 use lib.Count.{ones, ones_in, ones_cat}
-use Rattle.std.proofs.lemmas.Nat.{shr-shr, field_of, and_mask}
+use Rattle.std.proofs.lemmas.Nat.{shr-shr, and_mask}
 use Rattle.std.proofs.lemmas.Bool.{eqb-true}
-use Rattle.lanes.specs.Folds.{folded}
-use Rattle.lanes.specs.Markers.{nibble, unequal, wrong, shared, own}
+use Rattle.std.proofs.lemmas.Bool.Decides.{nat_tests}
+use Rattle.lanes.specs.Folds.{folded, octets_of, lowest_bits}
+use Rattle.lanes.specs.Markers.{nibble, unequal, wrong}
 use Rattle.lanes.specs.Every.{every_two_at}
+use Rattle.lanes.specs.declared.marker.Part.{Part}
+use Rattle.lanes.specs.declared.marker.Part.TheVariants.{Shared, Own}
 
 div_swap : (n j k : ℕ) → n / 2 ^ j / 2 ^ k ≡ n / 2 ^ k / 2 ^ j
-div_swap n j k = shr-shr n j k ∙ ap (λ (e : ℕ). n / 2 ^ e) (add_comm j k) ∙ sym (shr-shr n k j)
+div_swap n j k = grind (arith, shr-shr, add_comm)
 
 pairs_shr : (x : ℕ) → bit_or x (x / 2) / 16 ≡ bit_or (x / 16) (x / 16 / 2)
-pairs_shr x = or_shr x (x / 2) 4 ∙ ap (λ (e : ℕ). bit_or (x / 16) e) (div_swap x 1 4)
+pairs_shr x = rw (or_shr x (x / 2) 4, div_swap x 1 4) refl
 
 -- the nibbles above the lowest are folded as they are without it
 folded_shr : (x : ℕ) → folded x / 16 ≡ folded (x / 16)
@@ -33,11 +36,10 @@ folded-bit x =
 -- the lowest nibble by itself
 folded_low : (x : ℕ) → folded x % 2 ≡ folded (x % 16) % 2
 folded_low x =
-    let parity : (y : ℕ) → (y % 8 % 2 ≡ y % 2) × (y % 4 % 2 ≡ y % 2) × (y % 2 % 2 ≡ y % 2) = λ y. (omega arith, omega arith, omega arith) in
     let a : x % 16 % 2 ≡ x % 2 = omega arith in
-    let b : x % 16 / 2 % 2 ≡ x / 2 % 2 = ap (λ (e : ℕ). e % 2) (field_of x 3 1) ∙ (parity (x / 2)).0 in
-    let c : x % 16 / 4 % 2 ≡ x / 4 % 2 = ap (λ (e : ℕ). e % 2) (field_of x 2 2) ∙ (parity (x / 4)).1 in
-    let d : x % 16 / 8 % 2 ≡ x / 8 % 2 = ap (λ (e : ℕ). e % 2) (field_of x 1 3) ∙ (parity (x / 8)).2 in
+    let b : x % 16 / 2 % 2 ≡ x / 2 % 2 = omega arith in
+    let c : x % 16 / 4 % 2 ≡ x / 4 % 2 = omega arith in
+    let d : x % 16 / 8 % 2 ≡ x / 8 % 2 = omega arith in
     folded-bit x ∙ (rw (← a, ← b, ← c, ← d) refl) ∙ sym (folded-bit (x % 16))
 
 abbrev tells_apart : ℕ → ℕ → Bool
@@ -57,8 +59,7 @@ counted (s ∷ ss) j u = cond s (u j) 0 + counted ss (suc j) u
 
 ones-unequal : (s : Bool) (a b : ℕ) → ones (cond s (unequal a b) 0) ≡ cond s (unequal a b) 0
 unfolding ones ones_in
-ones-unequal false a b = refl
-ones-unequal true a b = elim (eqb a b) as (λ t. ones (cond t 0 1) ≡ cond t 0 1) [ true ↦ refl | false ↦ refl ]
+ones-unequal s a b = grind (arith, nat_tests)
 
 low : (s : Bool) (w m k : ℕ) → bit_and (folded (bit_xor w m)) (k * 16 + cond s 1 0) % 16 ≡ cond s (unequal (w % 16) (m % 16)) 0
 low false w m k =
@@ -105,32 +106,24 @@ six = true ∷ true ∷ true ∷ true ∷ true ∷ true ∷ []
 abbrev two : List Bool
 two = false ∷ false ∷ []
 
-abbrev shared_part : List Bool
-shared_part = six ++ two ++ six
-
-abbrev own_part : List Bool
-own_part = two ++ two ++ two ++ two ++ two ++ two ++ two ++ two ++ six ++ two ++ six
-
--- the same sums
-twelve : (a b c d e f g h i j k l : ℕ) → a + (b + (c + (d + (e + (f + (0 + (0 + (g + (h + (i + (j + (k + (l + 0))))))))))))) ≡ a + b + (c + d + (e + f + (g + h + (i + j + (k + l + 0)))))
-twelve a b c d e f g h i j k l = omega arith
+-- the nibbles of a part, from nibble 0 on
+abbrev counted_in : Part → List Bool
+counted_in Shared = six ++ two ++ six
+counted_in Own = two ++ two ++ two ++ two ++ two ++ two ++ two ++ two ++ six ++ two ++ six
 
 from_zero : (x : ℕ) → x / 2 ^ (4 * 0) ≡ x
 from_zero x = omega arith
 
-pub shared_counted : (w m : ℕ) → ones (bit_and (folded (bit_xor w m)) 0x11111100111111) ≡ wrong (nibble w) (nibble m) shared
-unfolding mask counted wrong
-shared_counted w m =
-    let u : ℕ → ℕ = λ i. unequal (nibble w i) (nibble m i) in
-    ap₂ (λ (x y : ℕ). ones (bit_and (folded (bit_xor x y)) 0x11111100111111)) (sym (from_zero w)) (sym (from_zero m))
-    ∙ counts shared_part 0 w m ∙ twelve (u 0) (u 1) (u 2) (u 3) (u 4) (u 5) (u 8) (u 9) (u 10) (u 11) (u 12) (u 13)
+by_mask : (ss : List Bool) (w m : ℕ) → ones (bit_and (folded (bit_xor w m)) (mask ss)) ≡ counted ss 0 (λ i. unequal (nibble w i) (nibble m i))
+by_mask ss w m = ap₂ (λ (x y : ℕ). ones (bit_and (folded (bit_xor x y)) (mask ss))) (sym (from_zero w)) (sym (from_zero m)) ∙ counts ss 0 w m
 
-skipped : (x : ℕ) → 0 + (0 + (0 + (0 + (0 + (0 + (0 + (0 + (0 + (0 + (0 + (0 + (0 + (0 + (0 + (0 + x))))))))))))))) ≡ x
-skipped x = omega arith
+-- the same sums
+regrouped : (p : Part) (v w : ℕ → ℕ) → counted (counted_in p) 0 (λ i. unequal (v i) (w i)) ≡ wrong v w (octets_of p)
+unfolding counted wrong
+regrouped Shared v w = omega arith
+regrouped Own v w = omega arith
 
-pub own_counted : (w m : ℕ) → ones (bit_and (folded (bit_xor w m)) 0x111111001111110000000000000000) ≡ wrong (nibble w) (nibble m) own
-unfolding mask counted wrong
-own_counted w m =
-    let u : ℕ → ℕ = λ i. unequal (nibble w i) (nibble m i) in
-    ap₂ (λ (x y : ℕ). ones (bit_and (folded (bit_xor x y)) 0x111111001111110000000000000000)) (sym (from_zero w)) (sym (from_zero m))
-    ∙ counts own_part 0 w m ∙ skipped _ ∙ twelve (u 16) (u 17) (u 18) (u 19) (u 20) (u 21) (u 24) (u 25) (u 26) (u 27) (u 28) (u 29)
+pub part_counted : (p : Part) (w m : ℕ) → ones (bit_and (folded (bit_xor w m)) (lowest_bits (octets_of p))) ≡ wrong (nibble w) (nibble m) (octets_of p)
+unfolding mask
+part_counted Shared w m = by_mask (counted_in Shared) w m ∙ regrouped Shared (nibble w) (nibble m)
+part_counted Own w m = by_mask (counted_in Own) w m ∙ regrouped Own (nibble w) (nibble m)

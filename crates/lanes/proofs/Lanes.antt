@@ -1,12 +1,14 @@
 -- The lane that passes, and that it is the only one.
-use Rattle.std.proofs.Common.{◌≡◌, ℕ, zero, suc, ◌<◌, ◌≤◌, Bool, true, false, ◌&&◌, ltb, leb, ◌⊎◌, Some, None, refl, ap, inl, inr, arith, lit<}
-use Rattle.std.proofs.lemmas.Bool.{lt-ltb, le-ltb, ltb-true, and_parts, cases_Bool}
+use Rattle.std.proofs.Common.{◌≡◌, ℕ, zero, suc, ◌<◌, ◌≤◌, Bool, true, false, ◌&&◌, ltb, leb, Option, Some, None, sym, refl, ap, rules, arith}
+use Rattle.std.specs.Prelude.{MatchOption}
+use Rattle.std.proofs.lemmas.Grind.{common_steps}
+use Rattle.std.proofs.lemmas.Bool.{lt-ltb, le-ltb, ltb-true, and_parts}
 use Rattle.blocks.specs.Bits.{nth}
 use Rattle.blocks.specs.Calls.{lowest}
 use Rattle.blocks.proofs.Lowest.{lowest-found}
-use Rattle.lanes.specs.Markers.{marker_of, octets_number, shared, own, near, passes}
+use Rattle.lanes.specs.Markers.{marker_at, octets_number, nibble, wrong, shared, own, near, passes}
 use Rattle.lanes.specs.Rates.{Lawful}
-use Rattle.lanes.proofs.Numbers.{shared_by_form, sent_near}
+use Rattle.lanes.proofs.Numbers.{own_by_number, shared_by_form, sent_near}
 use Rattle.lanes.proofs.Distance.{at_most_one}
 
 pub lowest-none : (f : ℕ → Bool) (n : ℕ) → ((i : ℕ) → i < n → f i ≡ false) → lowest f n ≡ None
@@ -14,27 +16,31 @@ unfolding lowest
 lowest-none f zero h = refl
 lowest-none f (suc n) h = rw (lowest-none f n (λ i l. h i (omega arith)), h n (omega arith)) refl
 
+-- what a search from 0 on answers
+pub lowest_first : (f : ℕ → Bool) (n : ℕ) (r : Option ℕ) →
+    MatchOption r ((k : ℕ) → 0 ≤ k → k < n → f k ≡ false) (λ i. (0 ≤ i) × (i < n) × (f i ≡ true) × ((k : ℕ) → 0 ≤ k → k < i → f k ≡ false)) →
+    r ≡ lowest f n
+lowest_first f n None h = sym (lowest-none f n (λ i l. h i (omega arith) l))
+lowest_first f n (Some i) h = sym (lowest-found f i n h.1 (lowest-none f i (λ k l. h.3 k (omega arith) l)) h.2)
+
 lowest_only : (f : ℕ → Bool) (n l : ℕ) → l < n → f l ≡ true → ((k : ℕ) → f k ≡ true → k ≡ l) → lowest f n ≡ Some l
-lowest_only f n l h e only = lowest-found f l n h (lowest-none f l (λ i b. go i b (cases_Bool (f i)))) e
-  where
-    go : (i : ℕ) → i < l → (f i ≡ true) ⊎ (f i ≡ false) → f i ≡ false
-    go i b (inl t) = let s : i ≡ l = only i t in absurd (omega arith)
-    go i b (inr t) = t
+lowest_only f n l h e only = lowest-found f l n h (lowest-none f l (λ i b. grind (arith, common_steps, only i))) e
 
 module _ {lanes pairs : ℕ} {octet : ℕ → ℕ → ℕ} (lawful : Lawful lanes pairs octet) (window : ℕ) where
   -- in the octets that all markers share, all are as near
-  pub shared-near : (l : ℕ) → l < lanes → near window (octet l) shared ≡ near window (nth (marker_of 0 0 0 0 0)) shared
+  shared-near : (l : ℕ) → l < lanes → near window (octet l) shared ≡ leb (wrong (nibble window) (nibble 0xD9B56500264A9A) shared) 3
   unfolding near
   shared-near l h = ap (λ (n : ℕ). leb n 3) (shared_by_form (octet l) (lawful.form l h) window)
 
-  -- what the tests of both parts answer
-  pub passes-near : (l : ℕ) (common mine : Bool) → l < lanes → common ≡ near window (nth (marker_of 0 0 0 0 0)) shared → common ≡ true → mine ≡ near window (octet l) own → passes lanes octet window l ≡ mine
-  unfolding passes
-  passes-near l common mine h e t d = rw (lt-ltb l lanes h, shared-near l h, ← e, t, d) refl
+  own-near : (l : ℕ) → l < lanes → near window (octet l) own ≡ leb (wrong (nibble window) (nibble (octets_number (nth (marker_at lanes octet l)) 15)) own) 3
+  unfolding near
+  own-near l h = ap (λ (n : ℕ). leb n 3) (sym (own_by_number lanes l octet h (lawful.form l h) window))
 
-  pub passes-far : (l : ℕ) (common : Bool) → l < lanes → common ≡ near window (nth (marker_of 0 0 0 0 0)) shared → common ≡ false → passes lanes octet window l ≡ false
+  -- what the tests of both parts answer
+  pub passes_here : (l : ℕ) → l < lanes → passes lanes octet window l ≡
+      leb (wrong (nibble window) (nibble 0xD9B56500264A9A) shared) 3 && leb (wrong (nibble window) (nibble (octets_number (nth (marker_at lanes octet l)) 15)) own) 3
   unfolding passes
-  passes-far l common h e t = rw (lt-ltb l lanes h, shared-near l h, ← e, t) refl
+  passes_here l h = rw (lt-ltb l lanes h, shared-near l h, own-near l h) refl
 
   pub passes_past : (l : ℕ) → lanes ≤ l → passes lanes octet window l ≡ false
   unfolding passes
@@ -51,8 +57,8 @@ module _ {lanes pairs : ℕ} {octet : ℕ → ℕ → ℕ} (lawful : Lawful lane
   unfolding passes
   sent_passes l h e =
       let f = lawful.form l h in
-      let a = sent_near (octet l) f shared (lit< tt, (lit< tt, (lit< tt, (lit< tt, (lit< tt, (lit< tt, tt)))))) in
-      let b = sent_near (octet l) f own (lit< tt, (lit< tt, (lit< tt, (lit< tt, (lit< tt, (lit< tt, tt)))))) in
+      let a = sent_near (octet l) f shared (search rules) in
+      let b = sent_near (octet l) f own (search rules) in
       rw (e, lt-ltb l lanes h, a, b) refl
 
   pub sent_lane : (l : ℕ) → l < lanes → window ≡ octets_number (octet l) 15 → lowest (passes lanes octet window) lanes ≡ Some l

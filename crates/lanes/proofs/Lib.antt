@@ -4,7 +4,5 @@ pub mod MarkerSymbols
 pub mod Distance
 pub mod Lanes
 pub mod Ticks
-pub mod Packs
-pub mod Messaged
 pub mod Padded
 pub mod ByHand

@@ -1,13 +1,12 @@
 -- The symbols of a marker out of its number.
-use Rattle.std.proofs.Common.{◌≡◌, ℕ, zero, suc, ◌+◌, ◌-◌, ◌*◌, ◌/◌, ◌%◌, ◌^◌, ◌<◌, ◌≤◌, ltb, List, [], ◌∷◌, ◌++◌, length, take, drop, replicate, sym, refl, ap, ◌∙◌, ap₂, inl, inr, arith}
-use native.Mathlib.Decide.{dec_le}
-use Rattle.std.proofs.lemmas.List.{drop_all, get_or_past}
-use Rattle.std.proofs.lemmas.Bool.{cases_Bool, ltb-true}
+use Rattle.std.proofs.Common.{◌≡◌, ℕ, suc, ◌+◌, ◌-◌, ◌*◌, ◌/◌, ◌%◌, ◌^◌, ◌<◌, ◌≤◌, List, [], ◌∷◌, ◌++◌, length, take, drop, replicate, sym, refl, ap, ◌∙◌, ap₂, arith}
+use Rattle.std.proofs.lemmas.List.{drop_all}
+use Rattle.std.proofs.lemmas.Grind.{common_steps}
 use Rattle.blocks.specs.Bits.{field, number, octet_bits, table, nth}
 use Rattle.blocks.proofs.Fields.{length-field, field_join, take-field, drop-field, number-field}
 use Rattle.blocks.proofs.Scrambles.{length-table, nth-table}
 use Rattle.lanes.specs.Markers.{symbol_in, marker_at, marker_bits, octets_number}
-use Rattle.lanes.specs.Rates.{Form}
+use Rattle.lanes.specs.Rates.{Form, Lawful}
 
 -- the bits of octets are those of their number
 pub octets-field : (os : List ℕ) → ((i : ℕ) → nth os i < 256) → octet_bits os ≡ field (octets_number (nth os) (length os)) 0 (8 * length os)
@@ -39,22 +38,17 @@ symbol_past bs i l = ap (λ (xs : List ℕ). number (take 10 xs)) (drop_all (10 
 module _ (lanes : ℕ) (octet : ℕ → ℕ → ℕ) (form : (l : ℕ) → l < lanes → Form (octet l)) where
   pub length_marker : (l : ℕ) → length (marker_at lanes octet l) ≡ 15
   unfolding marker_at
-  length_marker l = elim (cases_Bool (ltb l lanes)) [ inl e ↦ rw e (length-table 15 (octet l)) | inr e ↦ rw e refl ]
+  length_marker l = grind (arith, common_steps, length-table)
 
   octet_small : (l i : ℕ) → l < lanes → nth (table 15 (octet l)) i < 256
-  octet_small l i h = elim (dec_le 15 i) [
-    | yes k ↦ rw (get_or_past (table 15 (octet l)) i 0 (rw (length-table 15 (octet l)) k)) (omega arith)
-    | no k ↦ let m : i < 15 = omega arith in rw (nth-table 15 (octet l) i m) ((form l h).octets i m)
-  ]
+  octet_small l i h = let f = form l h in grind (arith, common_steps, length-table, nth-table, f.octets)
 
   zero-small : (n i : ℕ) → nth (replicate n 0) i < 256
-  zero-small zero i = omega arith
-  zero-small (suc n) zero = omega arith
-  zero-small (suc n) (suc i) = zero-small n i
+  zero-small n i = grind (arith, common_steps)
 
   marker_small : (l i : ℕ) → nth (marker_at lanes octet l) i < 256
   unfolding marker_at
-  marker_small l i = elim (cases_Bool (ltb l lanes)) [ inl e ↦ rw e (octet_small l i (ltb-true _ _ e)) | inr e ↦ rw e (zero-small 15 i) ]
+  marker_small l i = grind (arith, common_steps, octet_small, zero-small)
 
   pub marker_field : (l : ℕ) → marker_bits lanes octet l ≡ field (octets_number (nth (marker_at lanes octet l)) 15) 0 120
   unfolding marker_bits
@@ -64,3 +58,10 @@ module _ (lanes : ℕ) (octet : ℕ → ℕ → ℕ) (form : (l : ℕ) → l < l
 
   pub length_bits : (l : ℕ) → length (marker_bits lanes octet l) ≡ 120
   length_bits l = ap length (marker_field l) ∙ length-field (octets_number (nth (marker_at lanes octet l)) 15) 0 120
+
+module _ {lanes pairs : ℕ} {octet : ℕ → ℕ → ℕ} (lawful : Lawful lanes pairs octet) where
+  pub symbol_here : (l row : ℕ) → row < 12 → symbol_in (marker_bits lanes octet l) row ≡ octets_number (nth (marker_at lanes octet l)) 15 / 2 ^ (10 * row) % 1024
+  symbol_here l row h = ap (λ (bs : List ℕ). symbol_in bs row) (marker_field lanes octet lawful.form l) ∙ symbol_of_field _ 120 row (omega arith)
+
+  pub symbol_beyond : (l row : ℕ) → 12 ≤ row → symbol_in (marker_bits lanes octet l) row ≡ 0
+  symbol_beyond l row h = let n = length_bits lanes octet lawful.form l in symbol_past _ _ (omega arith)

@@ -1,36 +1,30 @@
 -- The nibbles of a number made of octets.
-use Rattle.std.proofs.Common.{◌≡◌, ℕ, zero, suc, ◌+◌, ◌*◌, ◌/◌, ◌%◌, ◌^◌, ◌<◌, true, List, [], ◌∷◌, sym, refl, ap, ◌∙◌, ap₂, arith, lit<}
+use Rattle.std.proofs.Common.{◌≡◌, ℕ, zero, suc, ◌+◌, ◌*◌, ◌/◌, ◌%◌, ◌<◌, true, List, [], ◌∷◌, sym, refl, ap, ◌∙◌, arith, rules}
 use Rattle.std.proofs.lemmas.Nat.{shr-shr}
 use Rattle.std.proofs.lemmas.Bool.{lt-ltb, le-leb, eq-eqb}
 use Rattle.blocks.specs.Bits.{table, nth}
 use Rattle.blocks.proofs.Scrambles.{nth-table}
-use Rattle.lanes.specs.Markers.{marker_of, marker_at, octets_number, nibble, nibble_of, wrong, shared, own, near}
+use Rattle.lanes.specs.Markers.{marker_at, octets_number, nibble, nibble_of, wrong, shared, own, near}
 use Rattle.lanes.specs.Rates.{Form}
 
 two_further : (x j : ℕ) → nibble x (suc (suc j)) ≡ nibble (x / 256) j
-two_further x j =
-    let e : 4 * suc (suc j) ≡ 8 + 4 * j = omega arith in
-    ap (λ (k : ℕ). x / 2 ^ k % 16) e ∙ ap (λ (y : ℕ). y % 16) (sym (shr-shr x 8 (4 * j)))
+two_further x j = grind (arith, shr-shr x 8 (4 * j))
 
 nibble_further : (f : ℕ → ℕ) (j : ℕ) → nibble_of f (suc (suc j)) ≡ nibble_of (λ i. f (suc i)) j
 nibble_further f j =
     let e : suc (suc j) / 2 ≡ suc (j / 2) = omega arith in
     let d : suc (suc j) % 2 ≡ j % 2 = omega arith in
-    ap₂ (λ (i k : ℕ). nibble (f i) k) e d
+    rw (e, d) refl
 
 pub nibble-number : (n : ℕ) (f : ℕ → ℕ) → ((i : ℕ) → i < n → f i < 256) → (j : ℕ) → j < 2 * n → nibble (octets_number f n) j ≡ nibble_of f j
 unfolding octets_number
 nibble-number zero f h j l = absurd (omega arith)
 nibble-number (suc n) f h zero l =
     let b : f 0 < 256 = h 0 (omega arith) in
-    let x : ℕ = octets_number (λ i. f (suc i)) n in
-    let e : (f 0 + 256 * x) / 1 % 16 ≡ f 0 / 1 % 16 = omega arith in
-    e
+    omega arith
 nibble-number (suc n) f h (suc zero) l =
     let b : f 0 < 256 = h 0 (omega arith) in
-    let x : ℕ = octets_number (λ i. f (suc i)) n in
-    let e : (f 0 + 256 * x) / 16 % 16 ≡ f 0 / 16 % 16 = omega arith in
-    e
+    omega arith
 nibble-number (suc n) f h (suc (suc j)) l =
     let b : f 0 < 256 = h 0 (omega arith) in
     let x : ℕ = octets_number (λ i. f (suc i)) n in
@@ -67,14 +61,10 @@ module _ (lanes l : ℕ) (octet : ℕ → ℕ → ℕ) (inside : l < lanes) (for
   pub own_by_number : (w : ℕ) → wrong (nibble w) (nibble (octets_number (nth (marker_at lanes octet l)) 15)) own ≡ wrong (nibble w) (nibble_of (octet l)) own
   own_by_number w = wrong-same (nibble w) (nibble (octets_number (nth (marker_at lanes octet l)) 15)) (nibble_of (octet l))
       (λ j h. nibble-number 15 (nth (marker_at lanes octet l)) small j h ∙ ap (λ (y : ℕ). nibble y (j % 2)) (octet_at (j / 2) (half_below j h)))
-      own (lit< tt, (lit< tt, (lit< tt, (lit< tt, (lit< tt, (lit< tt, tt))))))
+      own (search rules)
 
 -- what all markers share
-pub shared_by_number : (w : ℕ) → wrong (nibble w) (nibble 0xD9B56500264A9A) shared ≡ wrong (nibble w) (nibble_of (nth (marker_of 0 0 0 0 0))) shared
-unfolding wrong
-shared_by_number w = refl
-
-pub shared_by_form : (octet : ℕ → ℕ) → Form octet → (w : ℕ) → wrong (nibble w) (nibble_of octet) shared ≡ wrong (nibble w) (nibble_of (nth (marker_of 0 0 0 0 0))) shared
+pub shared_by_form : (octet : ℕ → ℕ) → Form octet → (w : ℕ) → wrong (nibble w) (nibble_of octet) shared ≡ wrong (nibble w) (nibble 0xD9B56500264A9A) shared
 unfolding wrong table
 shared_by_form octet form w =
     let e = form.letters in

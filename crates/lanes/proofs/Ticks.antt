@@ -1,6 +1,7 @@
 -- The lock machine over many ticks.
 use Rattle.std.proofs.Common.{◌≡◌, ℕ, zero, suc, ◌+◌, ◌-◌, ◌*◌, ◌<◌, ◌≤◌, Bool, false, None, sym, refl, ap, ◌∙◌, add-zero, add-suc, mul-zero, mul-one, mul-add, add-one, arith}
 use Rattle.std.proofs.lemmas.Bool.{lt-ltb}
+use Rattle.std.proofs.lemmas.Bool.Decides.{nat_tests}
 use Rattle.blocks.specs.Calls.{lowest}
 use Rattle.lanes.specs.Locks.{next_lock, lock_event}
 use Rattle.lanes.specs.LockRules.{after, event_after, LockRules}
@@ -23,23 +24,19 @@ module _ (lanes m : ℕ) where
 
   pub waiting : (test : ℕ → ℕ → Bool) (l n : ℕ) → n < period → after lanes period test (Waiting l period) n ≡ Waiting l (period - n)
   unfolding after next_lock
-  waiting test l zero h = let e : period ≡ period - 0 = omega arith in ap (λ (k : ℕ). Waiting l k) e
-  waiting test l (suc n) h =
-      let e : period - n - 1 ≡ period - suc n = omega arith in
-      rw (waiting test l n (omega arith), lt-ltb 1 (period - n) (omega arith), e) refl
+  waiting test l zero h = grind arith
+  waiting test l (suc n) h = grind (arith, nat_tests, waiting test l n)
 
   pub holding : (test : ℕ → ℕ → Bool) (l f n : ℕ) → n < period → after lanes period test (Locked l period f) n ≡ Locked l (period - n) f
   unfolding after next_lock
-  holding test l f zero h = let e : period ≡ period - 0 = omega arith in ap (λ (k : ℕ). Locked l k f) e
-  holding test l f (suc n) h =
-      let e : period - n - 1 ≡ period - suc n = omega arith in
-      rw (holding test l f n (omega arith), lt-ltb 1 (period - n) (omega arith), e) refl
+  holding test l f zero h = grind arith
+  holding test l f (suc n) h = grind (arith, nat_tests, holding test l f n)
 
   last_wait : (test : ℕ → ℕ → Bool) (l : ℕ) → after lanes period test (Waiting l period) m ≡ Waiting l 1
-  last_wait test l = let e : period - m ≡ 1 = omega arith in waiting test l m (omega arith) ∙ ap (λ (k : ℕ). Waiting l k) e
+  last_wait test l = grind (arith, waiting test l m)
 
   last_hold : (test : ℕ → ℕ → Bool) (l f : ℕ) → after lanes period test (Locked l period f) m ≡ Locked l 1 f
-  last_hold test l f = let e : period - m ≡ 1 = omega arith in holding test l f m (omega arith) ∙ ap (λ (k : ℕ). Locked l k f) e
+  last_hold test l f = grind (arith, holding test l f m)
 
   fails : (test : ℕ → ℕ → Bool) (l f : ℕ) → f < 4 → test period l ≡ false → after lanes period test (Locked l period f) period ≡ Locked l period (f + 1)
   unfolding after next_lock

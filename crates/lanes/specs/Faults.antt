@@ -2,11 +2,19 @@
 use Rattle.std.specs.Prelude.{ℕ, Ok, Err, Result}
 use Rattle.lanes.specs.declared.lock.Event.{Event}
 use Rattle.lanes.specs.declared.lock.Event.TheVariants.{Quiet, Waits, Locks, Fails, FifthFailure}
+use Rattle.lanes.specs.declared.fault.Cause.{Cause}
+use Rattle.lanes.specs.declared.fault.Cause.TheVariants.{FiveFailedMarkers}
 use Rattle.lanes.specs.declared.fault.Fault.{Fault}
 
 -- layer 1, cause 1
+abbrev pub layer_of : Cause → ℕ
+layer_of FiveFailedMarkers = 1
+
+abbrev pub number_of : Cause → ℕ
+number_of FiveFailedMarkers = 1
+
 abbrev pub five_failed : ℕ → ℕ → Fault
-five_failed position ticks = record { layer = 1; cause = 1; position = position; ticks = ticks }
+five_failed position ticks = record { cause = FiveFailedMarkers; position = position; ticks = ticks }
 
 abbrev pub checked : Event → ℕ → ℕ → Result Event Fault
 checked Quiet position ticks = Ok Quiet

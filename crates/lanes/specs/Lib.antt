@@ -5,9 +5,6 @@ pub mod Folds
 pub mod Locks
 pub mod LockRules
 pub mod Faults
-pub mod Strips
-pub mod Packing
-pub mod Messages
 pub mod Pads
 pub mod HandCases
 pub mod Tables

@@ -1,7 +1,8 @@
 -- Tables of letters: the markers made of them, and that they are lawful by one test over each table.
-use Rattle.std.specs.Prelude.{◌≡◌, ℕ, ◌^◌, ◌<◌, ◌≤◌, Bool, true, ◌||◌, ◌⊎◌, List, [], replicate, ◌==◌, ◌≢◌, nat_le, nat_lt, slice_index_or, refl}
-use Rattle.std.proofs.Common.{sym, inl, inr}
-use Rattle.std.proofs.lemmas.Bool.{ltb-true, leb-true, eqb-true, or_cases, lt-ltb, le-ltb}
+use Rattle.std.specs.Prelude.{◌≡◌, ℕ, ◌^◌, ◌<◌, ◌≤◌, Bool, true, ◌||◌, ◌⊎◌, List, [], length, replicate, ◌==◌, ◌≢◌, nat_le, nat_lt, slice_index_or, refl}
+use Rattle.std.proofs.Common.{sym, inl, inr, arith}
+use Rattle.std.proofs.lemmas.Bool.{ltb-true, lt-ltb, le-ltb}
+use Rattle.std.proofs.lemmas.Bool.Decides.{nat_tests}
 use Rattle.blocks.specs.Bits.{table, nth}
 use Rattle.lanes.specs.Markers.{marker_at, nibble_of, wrong, own}
 use Rattle.lanes.specs.Letters.{lettered, octet_in, letters_eight, letters_sixteen}
@@ -34,11 +35,23 @@ formed t lanes e l h = record {
 
 distant : (t : List (List ℕ)) (lanes : ℕ) → every_two (far t) lanes ≡ true →
     (l m : ℕ) → l < lanes → m < lanes → (l ≢ m) → 7 ≤ wrong (nibble_of (octet_in t l)) (nibble_of (octet_in t m)) own
-distant t lanes e l m h k n = go (or_cases (l == m) (nat_le 7 (wrong (nibble_of (octet_in t l)) (nibble_of (octet_in t m)) own)) (every_two_at (far t) lanes e l m h k))
-  where
-    go : ((l == m) ≡ true) ⊎ (nat_le 7 (wrong (nibble_of (octet_in t l)) (nibble_of (octet_in t m)) own) ≡ true) → 7 ≤ wrong (nibble_of (octet_in t l)) (nibble_of (octet_in t m)) own
-    go (inl s) = absurd (n (eqb-true l m s))
-    go (inr s) = leb-true 7 (wrong (nibble_of (octet_in t l)) (nibble_of (octet_in t m)) own) s
+distant t lanes e l m h k n = grind (arith, nat_tests, every_two_at (far t) lanes e l m h k)
+
+-- lanes 0 and 8 of sixteen
+pub eight_of_twelve : wrong (nibble_of (octet_in letters_sixteen 0)) (nibble_of (octet_in letters_sixteen 8)) own ≡ 8
+unfolding wrong
+eight_of_twelve = refl
+
+-- The lanes of a table are lawful if its markers are made of octets, and are far apart.
+lawful : (t : List (List ℕ)) → (length t ≡ 8) ⊎ (length t ≡ 16) → every (small t) (length t) ≡ true → every_two (far t) (length t) ≡ true →
+    (pairs : ℕ) → 9600 ≤ marker_period (length t) pairs → marker_period (length t) pairs ≤ 2 ^ 31 → Lawful (length t) pairs (octet_in t)
+lawful t width octets apart pairs long short = record {
+  width = width;
+  long = long;
+  short = short;
+  form = formed t (length t) octets;
+  apart = distant t (length t) apart;
+}
 
 small_eight : every (small letters_eight) 8 ≡ true
 small_eight = refl
@@ -54,25 +67,8 @@ far_sixteen : every_two (far letters_sixteen) 16 ≡ true
 unfolding wrong
 far_sixteen = refl
 
--- lanes 0 and 8 of sixteen
-pub eight_of_twelve : wrong (nibble_of (octet_in letters_sixteen 0)) (nibble_of (octet_in letters_sixteen 8)) own ≡ 8
-unfolding wrong
-eight_of_twelve = refl
-
 pub lawful_eight : (pairs : ℕ) → 9600 ≤ marker_period 8 pairs → marker_period 8 pairs ≤ 2 ^ 31 → Lawful 8 pairs (octet_in letters_eight)
-lawful_eight pairs long short = record {
-  width = inl refl;
-  long = long;
-  short = short;
-  form = formed letters_eight 8 small_eight;
-  apart = distant letters_eight 8 far_eight;
-}
+lawful_eight = lawful letters_eight (inl refl) small_eight far_eight
 
 pub lawful_sixteen : (pairs : ℕ) → 9600 ≤ marker_period 16 pairs → marker_period 16 pairs ≤ 2 ^ 31 → Lawful 16 pairs (octet_in letters_sixteen)
-lawful_sixteen pairs long short = record {
-  width = inr refl;
-  long = long;
-  short = short;
-  form = formed letters_sixteen 16 small_sixteen;
-  apart = distant letters_sixteen 16 far_sixteen;
-}
+lawful_sixteen = lawful letters_sixteen (inr refl) small_sixteen far_sixteen

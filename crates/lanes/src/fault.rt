@@ -1,26 +1,52 @@
 // Faults: what was lost, where and when.
 ghost use Rattle.std.specs.Prelude.{◌≡◌};
-ghost use Rattle.lanes.specs.Faults.{checked};
+ghost use Rattle.lanes.specs.Faults.{layer_of, number_of, checked};
 
 use crate::lock::Event;
 
-// A loss or setback by layer and cause, with the position and the accepted ticks of the hunt.
+// What was lost, or set back.
+#[derive(Clone, Copy, PartialEq, Eq, Debug)]
+pub enum Cause {
+    // Five failed markers in a row at one position.
+    FiveFailedMarkers,
+}
+
+// The layer of lanes. A layer above has causes of its own, and wraps these.
+const LAYER: u8 = 1;
+
+impl Cause {
+    // The layer that the cause is told by.
+    pub fn layer(self) -> u8
+        ensures { result ≡ layer_of self }
+    {
+        LAYER
+    }
+
+    // Its number among the causes of its layer.
+    pub fn number(self) -> u8
+        ensures { result ≡ number_of self }
+    {
+        match self {
+            Cause::FiveFailedMarkers => 1,
+        }
+    }
+}
+
+// A loss or setback by its cause, with the position and the accepted ticks of the hunt.
 #[derive(Clone, Copy, PartialEq, Eq, Debug)]
 pub struct Fault {
-    pub layer: u8,
-    pub cause: u8,
+    pub cause: Cause,
     pub position: usize,
     pub ticks: u64,
 }
 
-// The event, or the fault of five failed markers in a row: layer 1, cause 1.
+// The event, or the fault of five failed markers in a row.
 pub fn checked(event: Event, position: usize, ticks: u64) -> Result<Event, Fault>
     ensures { result ≡ checked event position ticks }
 {
     match event {
         Event::FifthFailure => Err(Fault {
-            layer: 1,
-            cause: 1,
+            cause: Cause::FiveFailedMarkers,
             position,
             ticks,
         }),

@@ -1,9 +1,9 @@
 // The letters of the alignment markers by lane, and the markers made of them.
-ghost use Rattle.std.specs.Prelude.{◌≡◌};
-ghost use Rattle.lanes.specs.Letters.{letters_eight, letters_sixteen, lettered, octet_in};
+ghost use Rattle.std.specs.Prelude.{◌≡◌, length};
+ghost use Rattle.lanes.specs.Letters.{lettered, octet_in};
 ghost use Rattle.lanes.specs.Markers.{marker_at};
 
-const EIGHT: [[u8; 5]; 8] = [
+pub(crate) const EIGHT: [[u8; 5]; 8] = [
     [0x05, 0xD6, 0xB3, 0xC0, 0x8C],
     [0x04, 0x67, 0x5A, 0xDE, 0x7E],
     [0x46, 0xFE, 0x3E, 0xF3, 0x56],
@@ -14,7 +14,7 @@ const EIGHT: [[u8; 5]; 8] = [
     [0x22, 0x32, 0xD6, 0x76, 0x5B],
 ];
 
-const SIXTEEN: [[u8; 5]; 16] = [
+pub(crate) const SIXTEEN: [[u8; 5]; 16] = [
     [0xB6, 0xD9, 0x01, 0x71, 0xF3],
     [0x04, 0x67, 0x5A, 0xDE, 0x7E],
     [0x46, 0xFE, 0x3E, 0xF3, 0x56],
@@ -33,47 +33,18 @@ const SIXTEEN: [[u8; 5]; 16] = [
     [0xB4, 0x56, 0xA6, 0xBA, 0x79],
 ];
 
-fn lettered(letters: [u8; 5]) -> [u8; 15]
-    ensures { result ≡ lettered letters }
+fn lettered(letters: &[u8; 5]) -> [u8; 15]
+    ensures { result ≡ lettered letters.now }
 {
-    let [a, b, u, v, w] = letters;
+    let [a, b, u, v, w] = *letters;
     [
-        0x9A,
-        0x4A,
-        0x26,
-        a,
-        0x65,
-        0xB5,
-        0xD9,
-        b,
-        u,
-        v,
-        w,
-        255 - b,
-        255 - u,
-        255 - v,
-        255 - w,
+        0x9A, 0x4A, 0x26, a, 0x65, 0xB5, 0xD9, b, u, v, w, !b, !u, !v, !w,
     ]
 }
 
-// The marker of a lane among eight; zeros past the lanes.
-pub(crate) fn marker_of_eight(lane: usize) -> [u8; 15]
-    ensures { result ≡ marker_at 8 (octet_in letters_eight) lane }
+// The marker of a lane by the letters of all lanes; zeros past them.
+pub(crate) fn marker_of(letters: &[[u8; 5]], lane: usize) -> [u8; 15]
+    ensures { result ≡ marker_at (length letters.now) (octet_in letters.now) lane }
 {
-    if lane < 8 {
-        lettered(EIGHT[lane])
-    } else {
-        [0; 15]
-    }
-}
-
-// The same among sixteen.
-pub(crate) fn marker_of_sixteen(lane: usize) -> [u8; 15]
-    ensures { result ≡ marker_at 16 (octet_in letters_sixteen) lane }
-{
-    if lane < 16 {
-        lettered(SIXTEEN[lane])
-    } else {
-        [0; 15]
-    }
+    letters.get(lane).map_or([0; 15], lettered)
 }

@@ -1,18 +1,14 @@
-// Rates and their alignment markers, the marker test, the lock machine of one position, and the steps of sending: pad bits,
-// the symbols of a message and strips.
+// Rates and their alignment markers, the marker test, the lock machine of one position, and pad bits.
 #![tactic(auto)]
 
 mod fault;
 mod letters;
 mod lock;
 mod marker;
-mod message;
 mod pad;
-mod padding;
 mod rate;
-mod strip;
 
-pub use fault::{Fault, checked};
+pub use fault::{Cause, Fault, checked};
 pub use lock::{Event, Lock, step};
 pub use marker::{found_lane, marker_symbol, passes};
 pub use pad::Pad;

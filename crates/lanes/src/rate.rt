@@ -6,31 +6,26 @@ ghost use Rattle.lanes.specs.Rates.{Lawful, marker_period};
 ghost use Rattle.std.proofs.Common.{lit≤};
 ghost use Rattle.lanes.specs.Tables.{lawful_eight, lawful_sixteen};
 
-use crate::letters::{marker_of_eight, marker_of_sixteen};
+use crate::letters::{EIGHT, SIXTEEN, marker_of};
 
 pub trait Rate {
     const LANES: usize;
     // The pairs of codewords in a marker period.
     const PAIRS: usize;
 
-    ghost lanes: { ℕ };
+    ghost LANES: { ℕ };
 
-    ghost pairs: { ℕ };
+    ghost PAIRS: { ℕ };
 
     // An octet of a lane's marker, by lane and index.
     ghost octet: { ℕ → ℕ → ℕ };
 
-    fn lane_count() -> usize
-        ensures { result ≡ lanes };
-
-    fn pair_count() -> usize
-        ensures { result ≡ pairs };
-
-    // The marker of a lane; zeros past the lanes.
+    // The marker of a lane; zeros past the lanes. With a constant table of letters in place of `octet` and `marker` an impl would
+    // be no shorter.
     fn marker(lane: usize) -> [u8; 15]
-        ensures { result ≡ marker_at lanes octet lane };
+        ensures { result ≡ marker_at LANES octet lane };
 
-    ghost lawful: { Lawful lanes pairs octet };
+    ghost lawful: { Lawful LANES PAIRS octet };
 }
 
 // The bits of a pair of codewords.
@@ -38,9 +33,9 @@ const PAIR_BITS: usize = 10880;
 
 // The ticks from one marker of a lane to the next.
 pub fn period<R: Rate>() -> usize
-    ensures { result ≡ marker_period R.lanes R.pairs }
+    ensures { result ≡ marker_period R.LANES R.PAIRS }
 {
-    R::pair_count() * (PAIR_BITS / R::lane_count())
+    R::PAIRS * (PAIR_BITS / R::LANES)
 }
 
 pub struct Rate200;
@@ -50,24 +45,16 @@ impl Rate for Rate200 {
 
     const PAIRS: usize = 2048;
 
-    ghost lanes = { 8 };
+    ghost LANES = { 8 };
 
-    ghost pairs = { 2048 };
+    ghost PAIRS = { 2048 };
 
     ghost octet = { octet_in letters_eight };
 
     ghost lawful = { lawful_eight _ (lit≤ tt) (lit≤ tt) };
 
-    fn lane_count() -> usize {
-        Self::LANES
-    }
-
-    fn pair_count() -> usize {
-        Self::PAIRS
-    }
-
     fn marker(lane: usize) -> [u8; 15] {
-        marker_of_eight(lane)
+        marker_of(&EIGHT, lane)
     }
 }
 
@@ -78,28 +65,20 @@ impl Rate for Rate400 {
 
     const PAIRS: usize = 4096;
 
-    ghost lanes = { 16 };
+    ghost LANES = { 16 };
 
-    ghost pairs = { 4096 };
+    ghost PAIRS = { 4096 };
 
     ghost octet = { octet_in letters_sixteen };
 
     ghost lawful = { lawful_sixteen _ (lit≤ tt) (lit≤ tt) };
 
-    fn lane_count() -> usize {
-        Self::LANES
-    }
-
-    fn pair_count() -> usize {
-        Self::PAIRS
-    }
-
     fn marker(lane: usize) -> [u8; 15] {
-        marker_of_sixteen(lane)
+        marker_of(&SIXTEEN, lane)
     }
 }
 
-// Short periods, for tests; the markers of 200.
+// Short periods, for tests; the markers of 200. With the pairs as a const parameter, unlawful periods would be rates too.
 pub struct RateShort;
 
 impl Rate for RateShort {
@@ -107,23 +86,15 @@ impl Rate for RateShort {
 
     const PAIRS: usize = 16;
 
-    ghost lanes = { 8 };
+    ghost LANES = { 8 };
 
-    ghost pairs = { 16 };
+    ghost PAIRS = { 16 };
 
     ghost octet = { octet_in letters_eight };
 
     ghost lawful = { lawful_eight _ (lit≤ tt) (lit≤ tt) };
 
-    fn lane_count() -> usize {
-        Self::LANES
-    }
-
-    fn pair_count() -> usize {
-        Self::PAIRS
-    }
-
     fn marker(lane: usize) -> [u8; 15] {
-        marker_of_eight(lane)
+        marker_of(&EIGHT, lane)
     }
 }

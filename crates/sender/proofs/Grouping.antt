@@ -1,19 +1,24 @@
 -- The groups of a pair's records, scrambled one after another.
-use Rattle.std.proofs.Common.{◌≡◌, ℕ, ◌+◌, ◌-◌, ◌*◌, ◌/◌, ◌<◌, ◌≤◌, ltb, List, [], ◌++◌, length, get_or, take, drop, None, sym, refl, ap, ◌∙◌, ap₂, append_assoc, append-nil, add-one, arith, length-append, length-drop}
-use Rattle.std.proofs.lemmas.List.{length-take-le, take-append-drop, get_or-take, get_or-drop}
+use Rattle.std.proofs.Common.{◌≡◌, ℕ, ◌+◌, ◌-◌, ◌*◌, ◌/◌, ◌<◌, ◌≤◌, ltb, List, [], ◌++◌, length, get_or, take, drop, None, Ok, Err, Result, sym, refl, ap, ◌∙◌, subst, ap₂, append_assoc, append-nil, add-one, arith, rules, length-append, length-drop}
+use Rattle.std.specs.Result.{IsOk}
+use Rattle.std.proofs.lemmas.List.{take_at, drop_at, drop-drop, length-take-le, take-append-drop, get_or-take, get_or-drop}
 use Rattle.std.proofs.lemmas.Bool.{eq-eqb}
 use Rattle.blocks.specs.Bits.{bit, nth}
 use Rattle.blocks.specs.Blocks.{blocks_in}
-use Rattle.blocks.specs.Calls.{lowest, kind_above_3, begun, bad_kind, four_refused}
-use Rattle.blocks.specs.Groups.{group_bits}
+use Rattle.blocks.specs.Calls.{lowest, kind_above_3, begun, bad_kind, four_refused, Grouped}
+use Rattle.blocks.specs.Groups.{bits_of, group_bits}
+use Rattle.blocks.specs.Memories.{out_memory}
 use Rattle.blocks.specs.Scrambled.{before, memory_in, scrambled_bits, scrambler_after}
+use Rattle.blocks.specs.declared.memory.Stream.{Stream}
+use Rattle.blocks.specs.declared.memory.Sent.{Sent}
 use Rattle.blocks.specs.declared.block.Block.{Block}
-use Rattle.blocks.proofs.Bytes.{put_more}
+use Rattle.blocks.specs.declared.group.Group.{Group}
+use Rattle.blocks.specs.declared.refusal.Refusal.{Refusal}
 use Rattle.blocks.proofs.Lowest.{none_below}
 use Rattle.blocks.proofs.Scrambles.{table_same, nth-table, scrambled-append, after-append}
 use Rattle.lanes.proofs.Lanes.{lowest-none}
 use Rattle.sender.specs.Messages.{group_at, group_stream}
-use Rattle.sender.proofs.Streams.{blocks_append, length-scrambled, length_stream}
+use Rattle.sender.proofs.Streams.{blocks_append}
 
 -- the 36 bytes of a group among those of all groups
 module _ (records : List ℕ) (g : ℕ) (room : 36 * g + 36 ≤ length records) where
@@ -40,10 +45,32 @@ module _ (records : List ℕ) (g : ℕ) (room : 36 * g + 36 ≤ length records) 
       ap (lowest (kind_above_3 (take 36 rest))) n ∙ lowest-none (kind_above_3 (take 36 rest)) 4 (λ i l. same_kind i l ∙ none_below (kind_above_3 records) (begun records) h (4 * g + i) (omega arith)) in
       rw (eq-eqb (length (take 36 rest)) 36 four_long, none) refl
 
--- a memory that nothing was scrambled on
-pub memory_kept : (x : ℕ) → memory_in x ≡ scrambler_after (memory_in x) []
+-- the next 36 bytes, behind those of g groups
+module _ (records rest four behind : List ℕ) (g : ℕ) (known : rest ≡ drop (36 * g) records) (inside : 36 * g ≤ length records) (split : rest ≡ four ++ behind) (size : length four ≡ 36) where
+  pub four_room : 36 * g + 36 ≤ length records
+  four_room = omega (arith, ap length known, length-drop (36 * g) records, ap length split, length-append four behind)
+
+  pub four_is : four ≡ take 36 (drop (36 * g) records)
+  four_is = sym (ap (take 36) (sym known ∙ split) ∙ take_at four behind 36 size)
+
+  pub behind_is : behind ≡ drop (36 * (g + 1)) records
+  behind_is = sym (ap (λ (k : ℕ). drop k records) (omega arith) ∙ sym (drop-drop 36 (36 * g) records) ∙ ap (drop 36) (sym known ∙ split) ∙ drop_at four behind 36 size)
+
+-- what the group of 36 bytes is
+pub grouped_ok : (xs : List ℕ) (r : Result Group Refusal) → Grouped xs r → four_refused xs ≡ None → IsOk r
+grouped_ok xs (Ok g) h k = search rules
+grouped_ok xs (Err e) h k = let z : ◌≡◌ {A = ℕ} 0 1 = cc in absurd (omega arith)
+
+pub grouped_bits : (xs : List ℕ) (r : Result Group Refusal) (g : Group) → r ≡ Ok g → Grouped xs r → bits_of g ≡ group_bits (blocks_in 4 xs)
+grouped_bits xs r g e h = let k : Grouped xs (Ok g) = subst (Grouped xs) e h in k.1
+
+-- a scrambler on whose memory nothing was scrambled
+number_kept : (x : ℕ) → memory_in x ≡ scrambler_after (memory_in x) []
 unfolding scrambler_after before
-memory_kept x = table_same 58 (λ k. bit x (57 - k)) (nth (memory_in x)) (λ k h. sym (nth-table 58 (λ j. bit x (57 - j)) k h))
+number_kept x = table_same 58 (λ k. bit x (57 - k)) (nth (memory_in x)) (λ k h. sym (nth-table 58 (λ j. bit x (57 - j)) k h))
+
+pub memory_kept : (s : Stream Sent) → out_memory s ≡ scrambler_after (out_memory s) []
+memory_kept s = number_kept s.memory
 
 -- one group more
 module _ (bs : List Block) (g : ℕ) (m memory group out : List ℕ) (known : memory ≡ scrambler_after m (group_stream bs g)) (is_group : group ≡ group_bits (group_at bs g)) where
@@ -53,18 +80,12 @@ module _ (bs : List Block) (g : ℕ) (m memory group out : List ℕ) (known : me
       e ∙ ap₂ scrambler_after known is_group ∙ sym (after-append m (group_stream bs g) (group_bits (group_at bs g)))
       ∙ ap (λ (n : ℕ). scrambler_after m (group_stream bs n)) (sym (add-one g))
 
-  pub group_more : (entry bits new : List ℕ) (at : ℕ) → 4 * g ≤ length bs → at ≤ length entry → out ≡ scrambled_bits memory group →
-      bits ≡ (take at entry ++ scrambled_bits m (group_stream bs g)) ++ drop (at + 257 * g) entry →
-      new ≡ take (at + 257 * g) bits ++ (out ++ drop (at + 257 * g + 257) bits) →
-      new ≡ (take at entry ++ scrambled_bits m (group_stream bs (g + 1))) ++ drop (at + 257 * (g + 1)) entry
+  pub group_more : (entry bits new : List ℕ) → out ≡ scrambled_bits memory group → bits ≡ entry ++ scrambled_bits m (group_stream bs g) → new ≡ bits ++ out →
+      new ≡ entry ++ scrambled_bits m (group_stream bs (g + 1))
   unfolding group_stream
-  group_more entry bits new at h room e inv f =
+  group_more entry bits new e inv f =
       let s : List ℕ = scrambled_bits m (group_stream bs g) in
-      let p : List ℕ = take at entry ++ s in
-      let n : length p ≡ at + 257 * g = length-append (take at entry) s ∙ ap₂ (λ (i j : ℕ). i + j) (length-take-le at entry room) (length-scrambled m (group_stream bs g) ∙ length_stream bs g h) in
-      let k : at + 257 * g + 257 ≡ at + 257 * (g + 1) = omega arith in
       let more : s ++ out ≡ scrambled_bits m (group_stream bs (g + 1)) =
       ap (λ (o : List ℕ). s ++ o) (e ∙ ap₂ scrambled_bits known is_group) ∙ sym (scrambled-append m (group_stream bs g) (group_bits (group_at bs g)))
       ∙ ap (λ (j : ℕ). scrambled_bits m (group_stream bs j)) (sym (add-one g)) in
-      put_more 257 p out entry bits new (at + 257 * g) n inv f
-      ∙ ap₂ (λ (xs : List ℕ) (j : ℕ). xs ++ drop j entry) (append_assoc (take at entry) s out ∙ ap (λ (o : List ℕ). take at entry ++ o) more) k
+      f ∙ ap (λ (bs : List ℕ). bs ++ out) inv ∙ append_assoc entry s out ∙ ap (λ (o : List ℕ). entry ++ o) more

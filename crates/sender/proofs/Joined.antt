@@ -11,7 +11,7 @@ use Rattle.blocks.proofs.Fields.{length-field}
 use Rattle.blocks.proofs.Scrambles.{table_same, after-append}
 use Rattle.sender.specs.Lines.{Line, started, pair_message, line_after, pad_after, send_refused, blocks_of}
 use Rattle.sender.specs.Messages.{pad_size, group_stream, message}
-use Rattle.sender.specs.Pads.{pad_before, pad_bit}
+use Rattle.lanes.specs.Pads.{pad_before, pad_bit}
 use Rattle.sender.specs.Strips.{strip_of}
 use Rattle.sender.specs.Joins.{Send, Start, opens_at, groups_at, groups_before, markers_before, accepted, joined, pairs_sent, sent_blocks, whole_stream, message_at, strips_from, strips_at, SendsJoin}
 use Rattle.sender.proofs.Messaged.{symbols_all}

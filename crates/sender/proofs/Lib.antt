@@ -1,7 +1,5 @@
 pub mod Packs
 pub mod Messaged
-pub mod Padded
-pub mod ByHand
 pub mod Symbols
 pub mod Streams
 pub mod Coded

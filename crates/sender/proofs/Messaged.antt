@@ -1,80 +1,36 @@
 -- Bits put one after another, and symbols out of them.
-use Rattle.std.proofs.Common.{◌≡◌, ℕ, zero, suc, ◌+◌, ◌*◌, ◌<◌, ◌≤◌, ◌≢◌, List, [], ◌∷◌, ◌++◌, length, get_or, take, drop, set, sym, refl, ap, ◌∙◌, ap₂, append_assoc, append-nil, add-zero, add-one, arith, length-append, below_more}
-use Rattle.std.proofs.lemmas.List.{ext_get_or, get_or-set_same, get_or-set_other, drop_more, set_at, set_split, length-take-le, take-append-drop}
-use Rattle.blocks.specs.Bits.{bit, field, number, table}
+use Rattle.std.proofs.Common.{◌≡◌, ℕ, zero, suc, ◌+◌, ◌-◌, ◌*◌, ◌<◌, ◌≤◌, List, [], ◌∷◌, ◌++◌, length, get_or, take, drop, sym, refl, ap, ◌∙◌, subst, ap₂, append_assoc, append-nil, arith, length-append, length-drop}
+use borrow.Rule.Slice.PartMut.{put_mid, mid_of}
+use Rattle.std.proofs.lemmas.List.{ext_get_or, drop_more, take_at, length-take-le}
+use Rattle.std.specs.Array.{IsFromFnResultFrom, IsFromFnResult}
+use Rattle.std.specs.Fn.{Called, Mut}
+use Rattle.blocks.specs.Bits.{field, number, table}
 use Rattle.blocks.specs.Groups.{words}
-use Rattle.blocks.proofs.Fields.{length-field, field-append}
-use Rattle.blocks.proofs.Bytes.{put_more}
+use Rattle.blocks.proofs.Bytes.{put_at}
+use Rattle.blocks.proofs.Fields.{length-field}
 use Rattle.blocks.proofs.Scrambles.{length-table, nth-table}
 use Rattle.lanes.specs.Markers.{symbol_in}
 
-one_bit : (x i : ℕ) → field x i 1 ≡ bit x i ∷ []
-unfolding field
-one_bit x i = refl
+-- a part put behind n others
+pub part_put : (n m : ℕ) (bits part : List ℕ) → n + m ≤ length bits → length part ≡ m → take (n + m) (put_mid n (n + m - n) bits part) ≡ take n bits ++ part
+part_put n m bits part room e =
+    let size : length (take n bits ++ part) ≡ n + m = length-append (take n bits) part ∙ ap₂ (λ (i j : ℕ). i + j) (length-take-le n bits (omega arith)) e in
+    ap (take (n + m)) (put_at bits part n m ∙ sym (append_assoc (take n bits) part (drop (n + m) bits))) ∙ take_at (take n bits ++ part) (drop (n + m) bits) (n + m) size
 
-none : (x i : ℕ) → field x i 0 ≡ []
-unfolding field
-none x i = refl
+-- the length of the part of a list from n on
+pub mid_size : (n m : ℕ) (bits : List ℕ) → n + m ≤ length bits → length (mid_of n (n + m - n) bits) ≡ m
+mid_size n m bits room = let e : n + m - n ≡ m = omega arith in ap (λ (k : ℕ). length (mid_of n k bits)) e ∙ length-take-le m (drop n bits) (simp length-drop (omega arith))
 
--- one more behind those that stand in front
-pub set_more : (p entry bits : List ℕ) (n y : ℕ) → length p ≡ n → n < length entry → bits ≡ p ++ drop n entry → set bits n y ≡ (p ++ (y ∷ [])) ++ drop (n + 1) entry
-set_more p entry bits n y e l inv =
-    ap (λ (bs : List ℕ). set bs n y) (inv ∙ ap (λ (bs : List ℕ). p ++ bs) (drop_more entry n 0 l))
-    ∙ set_at p (get_or entry n 0) (drop (n + 1) entry) y n e
-    ∙ sym (append_assoc p (y ∷ []) (drop (n + 1) entry))
+pub length-words : (ps : List ℕ) → length (words ps) ≡ 64 * length ps
+length-words [] = refl
+length-words (p ∷ ps) = length-append (field p 0 64) (words ps) ∙ ap₂ (λ (i j : ℕ). i + j) (length-field p 0 64) (length-words ps) ∙ omega arith
 
--- one bit more, behind `at` others and i bits of x
-pub bit_put : (entry bits : List ℕ) (at x i : ℕ) → at + i < length entry → bits ≡ (take at entry ++ field x 0 i) ++ drop (at + i) entry →
-    set bits (at + i) (bit x i) ≡ (take at entry ++ field x 0 (i + 1)) ++ drop (at + (i + 1)) entry
-bit_put entry bits at x i l e =
-    let p : List ℕ = take at entry ++ field x 0 i in
-    let n : length p ≡ at + i = length-append (take at entry) (field x 0 i) ∙ ap₂ (λ (j k : ℕ). j + k) (length-take-le at entry (omega arith)) (length-field x 0 i) in
-    let m : at + i + 1 ≡ at + (i + 1) = omega arith in
-    let more : p ++ (bit x i ∷ []) ≡ take at entry ++ field x 0 (i + 1) =
-    append_assoc (take at entry) (field x 0 i) (bit x i ∷ [])
-    ∙ ap (λ (bs : List ℕ). take at entry ++ bs) (sym (field-append x 0 i 1 ∙ ap (λ (bs : List ℕ). field x 0 i ++ bs) (ap (λ (j : ℕ). field x j 1) (omega arith) ∙ one_bit x i))) in
-    set_more p entry bits (at + i) (bit x i) n l e ∙ ap₂ (λ (bs : List ℕ) (j : ℕ). bs ++ drop j entry) more m
-
--- nothing put yet
-pub put_none : (entry : List ℕ) (at : ℕ) (xs : List ℕ) → xs ≡ [] → entry ≡ (take at entry ++ xs) ++ drop (at + 0) entry
-put_none entry at xs e =
-    sym (ap₂ (λ (u v : List ℕ). u ++ v) (ap (λ (bs : List ℕ). take at entry ++ bs) e ∙ append-nil (take at entry)) (ap (λ (j : ℕ). drop j entry) (add-zero at)) ∙ take-append-drop at entry)
-
-pub bits_none : (entry : List ℕ) (at x : ℕ) → entry ≡ (take at entry ++ field x 0 0) ++ drop (at + 0) entry
-bits_none entry at x = put_none entry at (field x 0 0) (none x 0)
-
--- bit 0 of a group and its four words
-pub group_put : (at f a b c d : ℕ) (xs s0 s1 s2 s3 s4 : List ℕ) → at + 257 ≤ length xs → s0 ≡ set xs at f →
-    s1 ≡ take (at + 1) s0 ++ (field a 0 64 ++ drop (at + 1 + 64) s0) →
-    s2 ≡ take (at + 65) s1 ++ (field b 0 64 ++ drop (at + 65 + 64) s1) →
-    s3 ≡ take (at + 129) s2 ++ (field c 0 64 ++ drop (at + 129 + 64) s2) →
-    s4 ≡ take (at + 193) s3 ++ (field d 0 64 ++ drop (at + 193 + 64) s3) →
-    s4 ≡ take at xs ++ ((f ∷ words (a ∷ b ∷ c ∷ d ∷ [])) ++ drop (at + 257) xs)
-group_put at f a b c d xs s0 s1 s2 s3 s4 room e0 e1 e2 e3 e4 =
-    let F : ℕ → List ℕ = λ x. field x 0 64 in
-    let lf : (x : ℕ) → length (F x) ≡ 64 = λ x. length-field x 0 64 in
-    let l : at < length xs = omega arith in
-    let p0 : List ℕ = take at xs ++ (f ∷ []) in
-    let p1 : List ℕ = p0 ++ F a in
-    let p2 : List ℕ = p1 ++ F b in
-    let p3 : List ℕ = p2 ++ F c in
-    let n0 : length p0 ≡ at + 1 = length-append (take at xs) (f ∷ []) ∙ ap (λ (k : ℕ). k + 1) (length-take-le at xs (omega arith)) in
-    let n1 : length p1 ≡ at + 65 = length-append p0 (F a) ∙ ap₂ (λ (j k : ℕ). j + k) n0 (lf a) ∙ omega arith in
-    let n2 : length p2 ≡ at + 129 = length-append p1 (F b) ∙ ap₂ (λ (j k : ℕ). j + k) n1 (lf b) ∙ omega arith in
-    let n3 : length p3 ≡ at + 193 = length-append p2 (F c) ∙ ap₂ (λ (j k : ℕ). j + k) n2 (lf c) ∙ omega arith in
-    let z : s0 ≡ p0 ++ drop (at + 1) xs = e0 ∙ set_split xs at f l ∙ ap (λ (k : ℕ). take at xs ++ (f ∷ drop k xs)) (sym (add-one at)) ∙ sym (append_assoc (take at xs) (f ∷ []) (drop (at + 1) xs)) in
-    let at_65 : at + 1 + 64 ≡ at + 65 = omega arith in
-    let at_129 : at + 65 + 64 ≡ at + 129 = omega arith in
-    let at_193 : at + 129 + 64 ≡ at + 193 = omega arith in
-    let at_257 : at + 193 + 64 ≡ at + 257 = omega arith in
-    let t1 : s1 ≡ p1 ++ drop (at + 65) xs = put_more 64 p0 (F a) xs s0 s1 (at + 1) n0 z e1 ∙ ap (λ (k : ℕ). p1 ++ drop k xs) at_65 in
-    let t2 : s2 ≡ p2 ++ drop (at + 129) xs = put_more 64 p1 (F b) xs s1 s2 (at + 65) n1 t1 e2 ∙ ap (λ (k : ℕ). p2 ++ drop k xs) at_129 in
-    let t3 : s3 ≡ p3 ++ drop (at + 193) xs = put_more 64 p2 (F c) xs s2 s3 (at + 129) n2 t2 e3 ∙ ap (λ (k : ℕ). p3 ++ drop k xs) at_193 in
-    let t4 : s4 ≡ (p3 ++ F d) ++ drop (at + 257) xs = put_more 64 p3 (F d) xs s3 s4 (at + 193) n3 t3 e4 ∙ ap (λ (k : ℕ). (p3 ++ F d) ++ drop k xs) at_257 in
-    let whole : p3 ++ F d ≡ take at xs ++ (f ∷ words (a ∷ b ∷ c ∷ d ∷ [])) =
-    append_assoc p2 (F c) (F d) ∙ append_assoc p1 (F b) (F c ++ F d) ∙ append_assoc p0 (F a) (F b ++ (F c ++ F d)) ∙ append_assoc (take at xs) (f ∷ []) (F a ++ (F b ++ (F c ++ F d)))
-    ∙ ap (λ (bs : List ℕ). take at xs ++ (f ∷ (F a ++ (F b ++ (F c ++ bs))))) (sym (append-nil (F d))) in
-    t4 ∙ ap (λ (bs : List ℕ). bs ++ drop (at + 257) xs) whole ∙ append_assoc (take at xs) (f ∷ words (a ∷ b ∷ c ∷ d ∷ [])) (drop (at + 257) xs)
+-- one word more
+pub words_more : (ps : List ℕ) (k : ℕ) → k < length ps → words (take (suc k) ps) ≡ words (take k ps) ++ field (get_or ps k 0) 0 64
+words_more [] k h = absurd (omega arith)
+words_more (p ∷ ps) zero h = append-nil (field p 0 64)
+words_more (p ∷ ps) (suc k) h =
+    ap (λ (bs : List ℕ). field p 0 64 ++ bs) (words_more ps k (omega arith)) ∙ sym (append_assoc (field p 0 64) (words (take k ps)) (field (get_or ps k 0) 0 64))
 
 -- the first n bits from `at` on as a number
 weighed : ℕ → ℕ → List ℕ → ℕ
@@ -104,10 +60,25 @@ ten_bits xs i at e h low high el eh =
     let e9 : get_or xs (at + 1 + 1 + 1 + 1 + 1 + 1 + 1 + 1 + 1) 0 ≡ get_or xs (at + 9) 0 = ap (λ (j : ℕ). get_or xs j 0) (omega arith) in
     omega arith ∙ sym (number_front 10 at xs h) ∙ ap (λ (j : ℕ). number (take 10 (drop j xs))) e
 
--- a list written place by place
-pub put_symbol : (xs : List ℕ) (i x : ℕ) (f : ℕ → ℕ) → i < length xs → ((k : ℕ) → k < i → get_or xs k 0 ≡ f k) → x ≡ f i → (k : ℕ) → k < i + 1 → get_or (set xs i x) k 0 ≡ f k
-put_symbol xs i x f l h e =
-    below_more _ _ (λ k m. let ne : k ≢ i = omega arith in get_or-set_other xs i k x 0 ne ∙ h k m) (get_or-set_same xs i x 0 l ∙ e)
-
+-- a list by its places
 pub symbols_all : (xs : List ℕ) (f : ℕ → ℕ) (n : ℕ) → length xs ≡ n → ((k : ℕ) → k < n → get_or xs k 0 ≡ f k) → xs ≡ table n f
 symbols_all xs f n e h = ext_get_or 0 xs (table n f) (e ∙ sym (length-table n f)) (λ k l. let m : k < n = omega arith in h k m ∙ sym (nth-table n f k m))
+
+-- an array made by a function of the index that keeps what it has
+module _ {F : Type 0} (g : Mut F (ℕ × Unit {0}) ℕ) (f : F) (h : ℕ → ℕ) (gives : (i y : ℕ) (q : F) → Called g f (i, tt) y q → (q ≡ f) × (y ≡ h i)) (ys : List ℕ) where
+  made_from : (n i : ℕ) (p : F) → p ≡ f → IsFromFnResultFrom g p ys i n → (k : ℕ) → k < n → get_or ys (i + k) 0 ≡ h (i + k)
+  made_from zero i p e m k l = absurd (omega arith)
+  made_from (suc n) i p e m zero l =
+      let c : Called g f (i, tt) m.1 m.0 = subst (λ (o : F). Called g o (i, tt) m.1 m.0) e m.3 in
+      let z : i + 0 ≡ i = omega arith in
+      ap (λ (j : ℕ). get_or ys j 0) z ∙ m.2.1 0 ∙ (gives i m.1 m.0 c).1 ∙ sym (ap h z)
+  made_from (suc n) i p e m (suc k) l =
+      let c : Called g f (i, tt) m.1 m.0 = subst (λ (o : F). Called g o (i, tt) m.1 m.0) e m.3 in
+      let z : i + suc k ≡ i + 1 + k = omega arith in
+      ap (λ (j : ℕ). get_or ys j 0) z ∙ made_from n (i + 1) m.0 (gives i m.1 m.0 c).0 m.4 k (omega arith) ∙ sym (ap h z)
+
+  pub made_by : (n : ℕ) → IsFromFnResult g f ys n → ys ≡ table n h
+  made_by n made =
+      symbols_all ys h n made.long (λ k l.
+      let z : 0 + k ≡ k = omega arith in
+      ap (λ (j : ℕ). get_or ys j 0) (sym z) ∙ made_from n 0 f refl made.each k l ∙ ap h z)

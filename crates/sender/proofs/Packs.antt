@@ -1,14 +1,13 @@
 -- Symbols, bits and octets of a lane.
-use Rattle.std.proofs.Common.{◌≡◌, ℕ, zero, suc, ◌+◌, ◌-◌, ◌*◌, ◌/◌, ◌%◌, ◌^◌, ◌<◌, ◌≤◌, eqb, List, ◌++◌, length, take, drop, sym, ap, ◌∙◌, ap₂, inl, inr, append_assoc, suc-mul, zero-mul, add-one, arith, length-append}
+use Rattle.std.proofs.Common.{◌≡◌, ℕ, zero, suc, ◌+◌, ◌-◌, ◌*◌, ◌/◌, ◌%◌, ◌^◌, ◌<◌, ◌≤◌, List, ◌++◌, length, take, drop, sym, ap, ◌∙◌, ap₂, inl, inr, append_assoc, suc-mul, zero-mul, add-one, arith, length-append}
 use borrow.Rule.Slice.PartMut.{put_mid}
 use Rattle.std.proofs.lemmas.List.{take_at, take_all, length-take-le}
-use Rattle.std.proofs.lemmas.Bool.{cond_both}
-use Rattle.blocks.specs.Bits.{bit, field, octets, table, nth}
+use Rattle.blocks.specs.Bits.{bit, field, octets, table}
 use Rattle.blocks.proofs.Fields.{field_join, field-append, length-field}
 use Rattle.blocks.proofs.Scrambles.{table_same, table-append, field-table, length-table}
 use Rattle.blocks.proofs.Bytes.{octets-append, length-octets, put_at, put_more}
 use Rattle.sender.specs.Strips.{lane_symbol, pair_bit, lane_octets, strip_octets}
-use Rattle.sender.specs.Packing.{four_symbols, quad_bits, Small, Lanes}
+use Rattle.sender.specs.Packing.{four_symbols, quad_bits, Lanes}
 
 pub packs : (s t u v : ℕ) → s < 1024 → t < 1024 → u < 1024 → v < 1024 → field (s + t * 1024 + u * 1048576 + v * 1073741824) 0 40 ≡ four_symbols s t u v
 packs s t u v hs ht hu hv =
@@ -48,16 +47,6 @@ quad_is lanes a b l q =
     let t2 : table 30 (λ i. f (10 + i)) ≡ F (4 * q + 1) ++ (F (4 * q + 2) ++ F (4 * q + 3)) =
     table-append 10 20 (λ i. f (10 + i)) ∙ ap₂ (λ (x y : List ℕ). x ++ y) p1 (table_same 20 (λ i. f (10 + (10 + i))) (λ i. f (20 + i)) (λ i h. ap f (omega arith)) ∙ t3) in
     sym (table-append 10 30 f ∙ ap₂ (λ (x y : List ℕ). x ++ y) p0 t2)
-
--- a row's symbols lie in the words
-pub row_inside : (lanes l k : ℕ) → Lanes lanes → l < lanes → k < 1088 / lanes → (lanes / 2 * k + l / 2 < 544) × (l < 16) × (k < 136)
-row_inside lanes l k (inl e) h m = let p : lanes / 2 ≡ 4 = omega arith in let q : 1088 / lanes ≡ 136 = ap (λ (x : ℕ). 1088 / x) e in (rw p (omega arith), omega arith, omega arith)
-row_inside lanes l k (inr e) h m = let p : lanes / 2 ≡ 8 = omega arith in let q : 1088 / lanes ≡ 68 = ap (λ (x : ℕ). 1088 / x) e in (rw p (omega arith), omega arith, omega arith)
-
-pub symbol-small : (lanes : ℕ) (a b : List ℕ) (l k : ℕ) → Small a → Small b → lane_symbol lanes a b l k < 1024
-symbol-small lanes a b l k s t =
-    let i : ℕ = lanes / 2 * k + l / 2 in
-    cond_both (eqb ((l + k) % 2) 0) (nth a i) (nth b i) (λ (x : ℕ). x < 1024) (λ e. s i) (λ e. t i)
 
 -- five octets of forty bits
 pub five_octets : (x : ℕ) (bytes : List ℕ) → bytes ≡ octets 8 (field x 0 64) → take 5 bytes ≡ octets 5 (field x 0 40)
@@ -105,10 +94,6 @@ module _ (lanes : ℕ) (a b : List ℕ) (l : ℕ) where
       sym (take_all (5 * q) part (omega arith)) ∙ inv ∙ ap₂ (λ (i j : ℕ). octets i (table j (pair_bit lanes a b l))) s t
 
 -- the lanes' parts in the strip
-pub part_inside : (lanes l : ℕ) → Lanes lanes → l < lanes → l * (1360 / lanes) + 1360 / lanes ≤ 1360
-part_inside lanes l (inl e) h = let n : 1360 / lanes ≡ 170 = ap (λ (x : ℕ). 1360 / x) e in rw n (omega arith)
-part_inside lanes l (inr e) h = let n : 1360 / lanes ≡ 85 = ap (λ (x : ℕ). 1360 / x) e in rw n (omega arith)
-
 pub parts_whole : (lanes : ℕ) → Lanes lanes → lanes * (1360 / lanes) ≡ 1360
 parts_whole lanes (inl e) = ap (λ (x : ℕ). x * (1360 / x)) e
 parts_whole lanes (inr e) = ap (λ (x : ℕ). x * (1360 / x)) e

@@ -12,7 +12,7 @@ use Rattle.blocks.proofs.Parts.{drop_past}
 use Rattle.blocks.proofs.Scrambles.{length-table, nth-table, scrambled-append}
 use Rattle.blocks.proofs.Shapes.{length-group}
 use Rattle.sender.specs.Messages.{group_at, group_stream}
-use Rattle.sender.specs.Pads.{pad_before}
+use Rattle.lanes.specs.Pads.{pad_before}
 
 pub length_blocks : (n : ℕ) (xs : List ℕ) → length (blocks_in n xs) ≡ n
 unfolding blocks_in

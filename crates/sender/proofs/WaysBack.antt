@@ -19,7 +19,7 @@ use Rattle.lanes.specs.Rates.{Lawful, pair_bits}
 use Rattle.sender.specs.Lines.{Line, opens, groups_of, pair_message}
 use Rattle.sender.specs.Messages.{Bits, symbol_bits, marker_block_symbol, block_size, pad_size, marker_block, opening, opening_size, group_count, group_at, group_stream, message, word}
 use Rattle.sender.specs.Packing.{Small, Lanes}
-use Rattle.sender.specs.Pads.{pad_before, pad_bit}
+use Rattle.lanes.specs.Pads.{pad_before, pad_bit}
 use Rattle.sender.specs.Places.{one_of, row_at, lane_at, OneToOne}
 use Rattle.sender.specs.Returns.{lane_bits, word_back, message_back, blocks_back, returned, each_back, WayBack}
 use Rattle.sender.specs.Strips.{pair_bit, lane_octets, strip_octets, strip_of}

@@ -6,7 +6,7 @@ use Rattle.blocks.specs.Scrambled.{scrambled_bits}
 use Rattle.blocks.specs.declared.block.Block.{Block}
 use Rattle.sender.specs.Lines.{Line, started, groups_of, pair_message, line_after, send_refused, blocks_of}
 use Rattle.sender.specs.Messages.{pad_size, group_count, group_stream, message}
-use Rattle.sender.specs.Pads.{pad_bit}
+use Rattle.lanes.specs.Pads.{pad_bit}
 use Rattle.sender.specs.Strips.{strip_of}
 
 -- a send: the records given, and the size of the strip buffer

@@ -1,8 +1,6 @@
 pub mod Messages
 pub mod Strips
 pub mod Packing
-pub mod Pads
-pub mod HandCases
 pub mod Refusals
 pub mod Lines
 pub mod View

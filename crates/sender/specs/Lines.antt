@@ -7,7 +7,7 @@ use Rattle.blocks.specs.Calls.{bad_kind}
 use Rattle.blocks.specs.Scrambled.{scrambled_bits, scrambler_after}
 use Rattle.blocks.specs.declared.block.Block.{Block}
 use Rattle.blocks.specs.declared.refusal.Refusal.TheVariants.{Length, Kind}
-use Rattle.sender.specs.Pads.{pad_before, pad_bit}
+use Rattle.lanes.specs.Pads.{pad_before, pad_bit}
 use Rattle.sender.specs.Messages.{pad_size, group_count, group_stream, message}
 use Rattle.sender.specs.Strips.{strip_of}
 use Rattle.sender.specs.declared.refusal.Refusal.{Refusal}

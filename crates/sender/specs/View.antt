@@ -3,7 +3,7 @@ use Rattle.std.specs.Prelude.{◌≡◌, ℕ, ◌^◌, ◌<◌, ◌≤◌, Ok, E
 use Rattle.blocks.specs.Memories.{out_memory}
 use Rattle.blocks.specs.declared.refusal.Refusal.TheVariants.{Start}
 use Rattle.sender.specs.Lines.{Line, started}
-use Rattle.sender.specs.Pads.{pad_memory}
+use Rattle.lanes.specs.Pads.{pad_memory}
 use Rattle.sender.specs.declared.refusal.Refusal.{Refusal}
 use Rattle.sender.specs.declared.refusal.Refusal.TheVariants.{Blocks}
 use Rattle.sender.specs.declared.state.Sender.{Sender}

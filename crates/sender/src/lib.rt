@@ -3,8 +3,6 @@
 
 mod message;
 mod opening;
-mod pad;
-mod padding;
 mod refusal;
 mod send;
 mod state;

@@ -1,37 +1,47 @@
-// The 10,280 bits of a pair's message, one a byte, and the symbols of its two words.
-ghost use Rattle.std.specs.Prelude.{◌≡◌, ℕ, ◌+◌, ◌*◌, ◌<◌, ◌≤◌, ◌++◌, length, take, drop};
+// The 10,280 bits of a pair's message, and the symbols of its two words.
+ghost use Rattle.std.specs.Prelude.{◌≡◌, ℕ, ◌+◌, ◌*◌, ◌<◌, ◌≤◌, List, [], ◌∷◌, ◌++◌, length, take};
 ghost use Rattle.blocks.specs.Bits.{field, table};
 ghost use Rattle.blocks.specs.Groups.{bits_of};
 ghost use Rattle.lanes.specs.Markers.{symbol_in};
 ghost use Rattle.sender.specs.Messages.{Bits, word_symbol};
+ghost use Rattle.sender.specs.Packing.{Small};
 
 use blocks::Group;
+use std::array::from_fn;
+use std::marker::Model;
 
-// Puts the lowest n bits of x from bit `at` on.
-pub(crate) fn put_bits(bits: &mut [u8], at: usize, x: u64, n: usize)
-    requires { (at + n ≤ length bits.old) × (n ≤ 64) }
-    ensures { bits.new ≡ take at bits.old ++ (field x 0 n ++ drop (at + n) bits.old) }
+// The bits of a pair's message: forty groups.
+const MESSAGE_BITS: usize = 10280;
+
+const WORD_BITS: usize = 64;
+
+// A message as far as it is written, one bit a byte.
+#[derive(Drop)]
+pub(crate) struct Message {
+    bits: [u8; MESSAGE_BITS],
+    len: usize,
+}
+
+// Clauses see the bits so far.
+impl Model for Message {
+    ghost Value = { List ℕ };
+
+    ghost view = { λ m. take m.len m.bits };
+
+    ghost invariant = { λ m. (m.len ≤ 10280) × Bits (take m.len m.bits) };
+}
+
+// Fills the bits with the lowest of x.
+fn put_bits(bits: &mut [u8], x: u64)
+    requires { length bits.old ≤ 64 }
+    ensures { bits.new ≡ field x 0 (length bits.old) }
 {
-    for i in 0..n {
-        bits[at + i] = ((x >> i) % 2) as u8;
+    for (i, bit) in bits.iter_mut().enumerate() {
+        *bit = ((x >> i) % 2) as u8;
     }
 }
 
-// Puts the 257 bits of a group from bit `at` on.
-pub(crate) fn put_group(bits: &mut [u8], at: usize, group: Group)
-    requires { at + 257 ≤ length bits.old }
-    ensures { bits.new ≡ take at bits.old ++ (bits_of group ++ drop (at + 257) bits.old) }
-{
-    let Group { first, parts } = group;
-    let [a, b, c, d] = parts;
-    bits[at] = u8::from(first);
-    put_bits(bits, at + 1, a, 64);
-    put_bits(bits, at + 65, b, 64);
-    put_bits(bits, at + 129, c, 64);
-    put_bits(bits, at + 193, d, 64);
-}
-
-// Symbol i of the message: ten bits, the first lowest.
+// Symbol i of the bits: ten bits, the first lowest. By its number, as the words take every second symbol.
 fn symbol_at(bits: &[u8], i: usize) -> u16
     requires { (Bits bits.now) × (10 * i + 10 ≤ length bits.now) }
     ensures { result ≡ symbol_in bits.now i }
@@ -46,14 +56,58 @@ fn symbol_at(bits: &[u8], i: usize) -> u16
     u16::from(low) + 32 * u16::from(high)
 }
 
-// The messages of the two words: even symbols go to A, odd ones to B.
-pub(crate) fn split(bits: &[u8], a: &mut [u16; 514], b: &mut [u16; 514])
-    requires { (Bits bits.now) × (length bits.now ≡ 10280) }
-    ensures a { a.new ≡ table 514 (word_symbol bits.now 0) }
-    ensures b { b.new ≡ table 514 (word_symbol bits.now 1) }
+// The symbols of word A, 0, or of word B, 1: even symbols go to A, odd ones to B.
+fn symbols(bits: &[u8], word: usize) -> [u16; 514]
+    requires { (Bits bits.now) × ((length bits.now ≡ 10280) × (word < 2)) }
+    ensures { result ≡ table 514 (word_symbol bits.now word) }
 {
-    for x in 0..514usize {
-        a[x] = symbol_at(bits, 2 * x);
-        b[x] = symbol_at(bits, 2 * x + 1);
+    from_fn(|x| symbol_at(bits, 2 * x + word))
+}
+
+impl Message {
+    pub(crate) fn new() -> Message
+        ensures { result ≡ [] }
+    {
+        Message {
+            bits: [0; MESSAGE_BITS],
+            len: 0,
+        }
+    }
+
+    pub(crate) fn push(&mut self, bit: u8)
+        requires { (length self.old < 10280) × (bit < 2) }
+        ensures { self.new ≡ self.old ++ bit ∷ [] }
+    {
+        self.bits[self.len] = bit;
+        self.len += 1;
+    }
+
+    // Puts the lowest n bits of x behind those that are in.
+    pub(crate) fn push_bits(&mut self, x: u64, n: usize)
+        requires { (length self.old + n ≤ 10280) × (n ≤ 64) }
+        ensures { self.new ≡ self.old ++ field x 0 n }
+    {
+        put_bits(&mut self.bits[self.len..self.len + n], x);
+        self.len += n;
+    }
+
+    pub(crate) fn push_group(&mut self, group: Group)
+        requires { length self.old + 257 ≤ 10280 }
+        ensures { self.new ≡ self.old ++ bits_of group }
+    {
+        let Group { first, parts } = group;
+        self.push(u8::from(first));
+        for part in parts {
+            self.push_bits(part, WORD_BITS);
+        }
+    }
+
+    // The message of word A, 0, or of word B, 1.
+    pub(crate) fn word(&self, word: usize) -> [u16; 514]
+        requires { (length self.now ≡ 10280) × (word < 2) }
+        ensures symbols { result ≡ table 514 (word_symbol self.now word) }
+        ensures small { Small result }
+    {
+        symbols(&self.bits[..self.len], word)
     }
 }

@@ -1,13 +1,11 @@
 // The marker block that opens a marker period.
-ghost use Rattle.std.specs.Prelude.{◌≡◌, ℕ, ◌+◌, ◌*◌, ◌<◌, ◌≤◌, ◌++◌, length, take, drop};
+ghost use Rattle.std.specs.Prelude.{◌≡◌, ℕ, ◌+◌, ◌*◌, ◌<◌, ◌≤◌, ◌++◌, length};
 ghost use Rattle.blocks.specs.Bits.{table, nth};
-ghost use Rattle.sender.specs.Messages.{exchanged, symbol_bits, marker_block_symbol, marker_block, block_size, pad_size, opening, opening_size};
-ghost use Rattle.sender.specs.Lines.{pad_after};
-ghost use Rattle.sender.specs.Pads.{pad_before, pad_bit, pad_memory};
+ghost use Rattle.lanes.specs.Pads.{pad_before, pad_bit, pad_memory};
+ghost use Rattle.sender.specs.Messages.{exchanged, symbol_bits, marker_block_symbol, marker_block, block_size, pad_size};
 
-use crate::message::put_bits;
-use crate::pad::Pad;
-use lanes::{Rate, marker_symbol};
+use crate::message::Message;
+use lanes::{Pad, Rate, marker_symbol};
 
 // The rows of marker symbols.
 const ROWS: usize = 12;
@@ -31,59 +29,44 @@ fn exchanged(row: usize, lane: usize) -> usize
 }
 
 // Puts the marker symbols of all rows.
-fn put_markers<R: Rate>(bits: &mut [u8])
-    requires { 120 * R.lanes ≤ length bits.old }
-    ensures { bits.new ≡ symbol_bits (12 * R.lanes) (marker_block_symbol R.lanes R.octet) ++ drop (120 * R.lanes) bits.old }
+fn put_markers<R: Rate>(message: &mut Message)
+    requires { length message.old + 120 * R.LANES ≤ 10280 }
+    ensures { message.new ≡ message.old ++ symbol_bits (12 * R.LANES) (marker_block_symbol R.LANES R.octet) }
 {
-    let lanes = R::lane_count();
+    let lanes = R::LANES;
+    // By the symbol's number in the block, as its definition counts: a loop over lanes in one over rows is no plainer.
     for m in 0..ROWS * lanes {
         let row = m / lanes;
         let symbol = marker_symbol::<R>(exchanged(row, m % lanes), row);
-        put_bits(bits, SYMBOL_BITS * m, u64::from(symbol), SYMBOL_BITS);
+        message.push_bits(u64::from(symbol), SYMBOL_BITS);
     }
 }
 
-// Puts n pad bits from bit `at` on.
-fn put_pad(pad: &mut Pad, bits: &mut [u8], at: usize, n: usize)
-    requires { at + n ≤ length bits.old }
-    ensures bits { bits.new ≡ take at bits.old ++ (table n (pad_bit (nth (pad_memory pad.old))) ++ drop (at + n) bits.old) }
+// Puts n pad bits.
+fn put_pad(pad: &mut Pad, message: &mut Message, n: usize)
+    requires { length message.old + n ≤ 10280 }
+    ensures bits { message.new ≡ message.old ++ table n (pad_bit (nth (pad_memory pad.old))) }
     ensures memory { pad_memory pad.new ≡ table 9 (pad_before (nth (pad_memory pad.old)) n) }
 {
-    for i in 0..n {
-        bits[at + i] = pad.next();
+    for _ in 0..n {
+        message.push(pad.next());
     }
 }
 
-// The bits of a marker block: the room of half as many groups as there are lanes.
-fn block_size<R: Rate>() -> usize
-    ensures { result ≡ block_size R.lanes }
+// The pad bits of a marker block, which takes the room of half as many groups as there are lanes.
+fn pad_size<R: Rate>() -> usize
+    ensures { result ≡ pad_size R.LANES }
 {
-    257 * (R::lane_count() / 2)
+    257 * (R::LANES / 2) - ROWS * SYMBOL_BITS * R::LANES - STATUS_BITS
 }
 
-// Puts the marker block in front.
-fn put_marker_block<R: Rate>(pad: &mut Pad, status: u8, bits: &mut [u8])
-    requires { (block_size R.lanes ≤ length bits.old) × (status < 8) }
-    ensures bits { bits.new ≡ marker_block R.lanes R.octet (table (pad_size R.lanes) (pad_bit (nth (pad_memory pad.old)))) status ++ drop (block_size R.lanes) bits.old }
-    ensures memory { pad_memory pad.new ≡ table 9 (pad_before (nth (pad_memory pad.old)) (pad_size R.lanes)) }
+// Puts a marker block.
+pub(crate) fn put_marker_block<R: Rate>(pad: &mut Pad, status: u8, message: &mut Message)
+    requires { length message.old + block_size R.LANES ≤ 10280 }
+    ensures bits { message.new ≡ message.old ++ marker_block R.LANES R.octet (table (pad_size R.LANES) (pad_bit (nth (pad_memory pad.old)))) status }
+    ensures memory { pad_memory pad.new ≡ table 9 (pad_before (nth (pad_memory pad.old)) (pad_size R.LANES)) }
 {
-    let markers = ROWS * SYMBOL_BITS * R::lane_count();
-    let pads = block_size::<R>() - markers - STATUS_BITS;
-    put_markers::<R>(bits);
-    put_pad(pad, bits, markers, pads);
-    put_bits(bits, markers + pads, u64::from(status), STATUS_BITS);
-}
-
-// Puts what opens a pair, a marker block or nothing, and answers its size.
-pub(crate) fn put_opening<R: Rate>(opens: bool, pad: &mut Pad, status: u8, bits: &mut [u8]) -> usize
-    requires { (block_size R.lanes ≤ length bits.old) × (status < 8) }
-    ensures size { result ≡ opening_size R.lanes opens }
-    ensures bits { bits.new ≡ opening R.lanes R.octet opens (table (pad_size R.lanes) (pad_bit (nth (pad_memory pad.old)))) status ++ drop (opening_size R.lanes opens) bits.old }
-    ensures memory { pad_memory pad.new ≡ pad_after R.lanes opens (pad_memory pad.old) }
-{
-    if !opens {
-        return 0;
-    }
-    put_marker_block::<R>(pad, status, bits);
-    block_size::<R>()
+    put_markers::<R>(message);
+    put_pad(pad, message, pad_size::<R>());
+    message.push_bits(u64::from(status), STATUS_BITS);
 }

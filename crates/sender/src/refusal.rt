@@ -3,6 +3,8 @@ ghost use Rattle.std.specs.Prelude.{◌≡◌};
 ghost use Rattle.sender.specs.Refusals.{number_of, place_of};
 ghost use Rattle.sender.specs.declared.refusal.Refusal.TheVariants.{Blocks};
 
+use std::fmt;
+
 #[derive(Clone, Copy, PartialEq, Eq, Debug)]
 pub enum Refusal {
     // The strip buffer has fewer than 1,360 bytes.
@@ -19,6 +21,7 @@ impl From<blocks::Refusal> for Refusal {
     }
 }
 
+// By name, not as conversions: a number and an index alone would not say which of them is meant.
 impl Refusal {
     pub fn number(self) -> u32
         ensures { result ≡ number_of self }
@@ -36,5 +39,20 @@ impl Refusal {
             Refusal::Buffer => 0,
             Refusal::Blocks(refusal) => refusal.place(),
         }
+    }
+}
+
+// The number, a space and the place. Each layer has refusals and numbers of its own; a trait of number and place with an
+// impl for each type would be no shorter.
+impl fmt::Display for Refusal {
+    ghost use Rattle.std.specs.Prelude.{Some};
+    ghost use Rattle.sender.specs.Refusals.{text_of};
+
+    ghost output = { λ e. Some (text_of e) };
+
+    fn fmt<W: fmt::Write>(&self, f: &mut fmt::Formatter<W>) -> fmt::Result {
+        let number = self.number();
+        let place = self.place();
+        write!(f, "{number} {place}")
     }
 }

@@ -1,8 +1,8 @@
 // A sender, by what it keeps from pair to pair.
 ghost use Rattle.std.specs.Prelude.{◌^◌, ◌<◌};
 
-use crate::pad::Pad;
 use blocks::Scrambler;
+use lanes::Pad;
 use std::marker::PhantomData;
 
 // `index` counts the pairs of a marker period; pair 0 opens it.

@@ -1,24 +1,17 @@
-use Rattle.std.proofs.Common.{◌≡◌, ◌+◌, ◌*◌, ◌/◌, ◌^◌, [], ◌∷◌, arith}
-use Rattle.blocks.specs.Groups.{words}
-use Rattle.blocks.proofs.Parts.{leaves_out, carries}
+use Rattle.std.proofs.Common.{◌≡◌, ℕ, ◌+◌, ◌*◌, ◌^◌, ◌%◌, ◌<◌, List, ◌++◌, length, ap, ◌∙◌, rules}
+use Rattle.blocks.specs.Groups.{without, words}
+use Rattle.blocks.proofs.Parts.{Left, left_out_at, flags_ahead}
+use Rattle.blocks.proofs.Written.{each_of_four}
 use Rattle.blocks.proofs.group.without_digit.Goals as goal
 
-pub returns-in-0 : goal.returns-in-0
-returns-in-0 c =
-    let e : 64 * c.args.at + 4 ≡ 4 = omega arith in
-    rw e (leaves_out c.args.flags c.args.a c.shortened.result (words (c.args.b ∷ c.args.c ∷ c.args.d ∷ [])) c.shortened.ensures)
-
-pub returns-in-1 : goal.returns-in-1
-returns-in-1 c =
-    let e : 64 * c.args.at + 4 ≡ 68 = omega arith in
-    rw e (carries c.args.flags c.args.a c.carried.result 4 (words (c.args.b ∷ c.args.c ∷ c.args.d ∷ [])) _ c.carried.ensures (leaves_out (c.args.a / 2 ^ 60) c.args.b c.shortened-in-1.result (words (c.args.c ∷ c.args.d ∷ [])) c.shortened-in-1.ensures))
-
-pub returns-in-2 : goal.returns-in-2
-returns-in-2 c =
-    let e : 64 * c.args.at + 4 ≡ 132 = omega arith in
-    rw e (carries c.args.flags c.args.a c.carried-in-2.result 68 (words (c.args.b ∷ c.args.c ∷ c.args.d ∷ [])) _ c.carried-in-2.ensures (carries (c.args.a / 2 ^ 60) c.args.b c.carried-in-2-2.result 4 (words (c.args.c ∷ c.args.d ∷ [])) _ c.carried-in-2-2.ensures (leaves_out (c.args.b / 2 ^ 60) c.args.c c.shortened-in-2.result (words (c.args.d ∷ [])) c.shortened-in-2.ensures)))
-
-pub returns-in_default : goal.returns-in_default
-returns-in_default c =
-    let e : 64 * c.args.at + 4 ≡ 196 = omega arith in
-    rw e (carries c.args.flags c.args.a c.carried-in_default.result 132 (words (c.args.b ∷ c.args.c ∷ c.args.d ∷ [])) _ c.carried-in_default.ensures (carries (c.args.a / 2 ^ 60) c.args.b c.carried-in_default-2.result 68 (words (c.args.c ∷ c.args.d ∷ [])) _ c.carried-in_default-2.ensures (carries (c.args.b / 2 ^ 60) c.args.c c.carried-in_default-3.result 4 (words (c.args.d ∷ [])) _ c.carried-in_default-3.ensures (leaves_out (c.args.c / 2 ^ 60) c.args.d c.shortened-in_default.result (words ([])) c.shortened-in_default.ensures))))
+pub returns : goal.returns
+returns c =
+    let ps = c.args.payloads in
+    let rs = c.from_fn.result in
+    let at = c.args.at in
+    let before : ℕ = c.args.flags * 2 ^ 60 % 2 ^ 64 in
+    let h : length ps ≡ 4 = search rules in
+    let n : length rs ≡ length ps = search rules in
+    let l : at < length ps = search rules in
+    left_out_at before at ps rs n l (rw h (each_of_four (Left before at ps rs) (search rules) (search rules) (search rules) (search rules)))
+    ∙ ap (λ (fs : List ℕ). fs ++ without (64 * at + 4) (words ps)) (flags_ahead c.args.flags)

@@ -1,11 +1,13 @@
 -- The message with its remainder is the codeword.
-use Rattle.std.proofs.Common.{arith}
+use Rattle.std.proofs.Common.{◌≡◌, ◌++◌, take, ap₂, subst}
+use Rattle.code.specs.Answers.{Encoded}
 use Rattle.code.proofs.Division.{encoded}
 use Rattle.code.proofs.encoder.encode.Goals as goal
 
-pub divide-register-requires : goal.divide-register-requires
-divide-register-requires c = (omega arith, λ i l. c.in_default.ensures i (omega arith))
-
 pub returns : goal.returns
 returns c =
-    encoded c.args.message.now c.divide-register.result c.put_message.new.word c.put_remainder.new.word (omega arith) c.in_default.ensures c.divide-register.ensures (omega arith) c.put_message.ensures c.put_remainder.ensures
+    let m = c.in_ok-message.message in
+    let r = c.divide-register.result.symbols in
+    let word = c.copy_from_slice.new.self ++ c.copy_from_slice-2.new.self in
+    let is : word ≡ m.symbols.now ++ take 30 r = ap₂ (λ a b. a ++ b) c.copy_from_slice.ensures.after c.copy_from_slice-2.ensures.after in
+    subst (λ x. Encoded x word) c.in_ok-message.ensures (encoded m.symbols.now r word m.whole m.small c.divide-register.ensures is)

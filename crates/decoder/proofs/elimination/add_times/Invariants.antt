@@ -6,5 +6,5 @@ use Rattle.decoder.proofs.elimination.add_times.Given as goal
 abbrev pub invariant-loop-j : goal.invariant-loop-j
 invariant-loop-j g l =
     let G = g.F.Adds.group in
-    (length l.w ≡ 16) × Added G g.F.Field.ring l.initial.w l.p l.q l.w l.j
-    × ((i : ℕ) → l.j ≤ i → get_or l.w i G.zero ≡ get_or l.initial.w i G.zero)
+    (length l.y-items ≡ 16) × Added G g.F.Field.ring l.initial.y-items l.p l.q l.y-items l.j
+    × ((i : ℕ) → l.j ≤ i → get_or l.y-items i G.zero ≡ get_or l.initial.y-items i G.zero)

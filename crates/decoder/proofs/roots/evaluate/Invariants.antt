@@ -3,6 +3,6 @@ use Rattle.std.proofs.Common.{length}
 use Rattle.decoder.specs.Words.{Values, falling}
 use Rattle.decoder.proofs.roots.evaluate.Given as goal
 
-abbrev pub invariant-loop-j : goal.invariant-loop-j
-invariant-loop-j g l =
-    Values g.F.Adds.group g.F.Field.ring (falling g.F.Adds.group l.v l.d) l.j l.points (length l.points) l.values
+abbrev pub invariant-loop-c : goal.invariant-loop-c
+invariant-loop-c g l =
+    Values g.F.Adds.group g.F.Field.ring (falling g.F.Adds.group l.v (length l.v)) (length l.yielded) l.points (length l.points) l.values

@@ -1,19 +1,22 @@
 -- One symbol more adds one term.
-use Rattle.std.proofs.Common.{arith}
-use Rattle.std.proofs.lemmas.List.{get_or_read}
+use Rattle.std.proofs.Common.{length, Bor, arith}
+use Rattle.std.proofs.lemmas.List.{length_push}
+use Rattle.std.proofs.lemmas.Slice.Zip.{zip_turn}
 use Rattle.decoder.proofs.Steps.{syndrome_next}
 use Rattle.decoder.proofs.syndromes.compute.Goals as goal
 
-pub loop-i-preserved : goal.loop-i-preserved
-loop-i-preserved g c = λ k h.
+pub loop-a-preserved : goal.loop-a-preserved
+loop-a-preserved g c = λ k h.
     let G = g.F.Adds.group in
     let R = g.F.Field.ring in
     let w = c.args.word.now in
     let xs = c.args.points.now in
-    let i = c.loop-i.i in
-    let a = get_or_read w i c.index-word-i.result (omega arith) c.index-word-i.is G.zero in
-    let x = get_or_read xs i c.index-points-i.result (omega arith) c.index-points-i.is G.zero in
+    let pair : Bor g.row.F.Denot × Bor g.row.F.Denot = (c.in-Some.a, c.in-Some.x) in
+    let turn = zip_turn w xs c.loop-a.yielded c.into_iter-a-iterator.result c.loop-a.a-iterator c.next.new.self _ (cc) (cc) c.loop-a.yielded_by pair c.in-Some.is c.next.ensures.steps in
+    let grown = length_push c.loop-a.yielded pair in
+    let a = turn.2 G.zero in
+    let x = turn.3 G.zero in
     let added = c.add_term.ensures k (omega arith) in
-    let before = c.loop-i.invariant k h in
-    let next = syndrome_next G R w xs k i in
+    let before = c.loop-a.invariant k h in
+    let next = syndrome_next G R w xs k (length c.loop-a.yielded) in
     cc

@@ -1,9 +1,20 @@
 -- The test of the syndromes is the test for a codeword.
-use Rattle.std.proofs.Common.{length, arith}
+use Rattle.std.proofs.Common.{◌≡◌, ◌≢◌, length, MatchBool, subst, arith, rules, tests}
+use Rattle.std.proofs.lemmas.List.{length-take-le}
+use Rattle.std.proofs.lemmas.Iterator.{cases_from_all, YieldsList-from_slice}
+use Rattle.decoder.specs.Decoding.{Codeword}
 use Rattle.decoder.proofs.Decoding.{zero_test}
 use Rattle.decoder.proofs.syndromes.is_codeword.Goals as goal
 
 pub returns : goal.returns
 returns g c =
-    zero_test g.F.Adds.group g.F.Field.ring g.met.F.Field.field c.args.word.now c.args.points.now c.compute.new.s (length c.args.word.now) c.args.m c.all_zero.result
-    (λ k l. c.compute.ensures k (omega arith)) c.all_zero.ensures
+    let G = g.F.Adds.group in
+    let R = g.F.Field.ring in
+    let w = c.args.word.now in
+    let xs = c.args.points.now in
+    let s = c.compute.new.s in
+    let b = c.all.result in
+    let size : length s ≡ c.args.m = omega (arith, length-take-le c.args.m c.args.s.now (omega arith)) in
+    let zeros = cases_from_all _ _ _ (λ x. x ≡ G.zero) (λ x. x ≢ G.zero) c.all.ensures.ran (YieldsList-from_slice s cc) (λ x q k. search (rules, tests)) (λ x q k. search (rules, tests)) in
+    subst (λ k. MatchBool b (Codeword G R xs (length w) k w) (Codeword G R xs (length w) k w → ⊥)) size
+    (zero_test G R g.met.F.Field.field w xs s (length w) b (λ k l. c.compute.ensures k (omega arith)) zeros)

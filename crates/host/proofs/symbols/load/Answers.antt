@@ -1,20 +1,17 @@
-use Rattle.std.proofs.Common.{◌≡◌, ℕ, ◌+◌, ◌*◌, ◌<◌, ◌≢◌, length, sym, ◌∙◌, ap₂, arith, below_none, below_more}
-use Rattle.std.proofs.lemmas.List.{get_or-set_same, get_or-set_other}
-use Rattle.host.proofs.Octets.{crossed}
+-- Each pair of octets is a symbol.
+use Rattle.std.proofs.Common.{◌≡◌, ◌/◌, ◌<◌, ℕ, List, [], length, get_or, sym, ◌∙◌, ap, zero-add, arith, rules}
+use Rattle.host.proofs.Octets.{crossed, low_first, low_first-pair}
+use Rattle.host.proofs.Turns.{each_call}
 use Rattle.host.proofs.symbols.load.Goals as goal
 
-pub loop-i-init : goal.loop-i-init
-loop-i-init c = below_none _
-
-pub loop-i-preserved : goal.loop-i-preserved
-loop-i-preserved c =
-    let i : ℕ = c.loop-i.i in
-    let l : i < length c.loop-i.symbols = omega arith in
-    below_more _ _
-    (λ k h. let ne : k ≢ i = omega arith in c.loop-i.invariant k h ∙ sym (get_or-set_other c.loop-i.symbols i k _ 0 ne))
-    (sym (get_or-set_same c.loop-i.symbols i _ 0 l ∙ ap₂ (λ (u v : ℕ). u + 256 * v) c.from.ensures c.from-in-loop-i.ensures))
-
 pub returns : goal.returns
-returns c =
-    let n : length c.loop-i.symbols ≡ length c.args.symbols.now = omega arith in
-    sym (crossed c.args.octets.now c.loop-i.symbols (omega arith) (λ k h. c.loop-i.invariant k (omega arith)))
+returns g c =
+    let made = c.from_fn.ensures.items in
+    let long : length c.from_fn.result ≡ g.row.N = made.long in
+    let xs : List ℕ = c.args.octets.now in
+    let pairs : List (List ℕ) = c.as_chunks.result.0.now in
+    sym (crossed xs c.from_fn.result (omega arith) (λ k h.
+    let l : k < g.row.N = omega arith in
+    let e : get_or c.from_fn.result k 0 ≡ low_first (get_or pairs k []) =
+    rw zero-add at (each_call _ _ (λ i y. y ≡ low_first (get_or pairs i [])) (λ i y q call. search rules) c.from_fn.result 0 g.row.N made.each k 0 l) in
+    sym (e ∙ ap (λ (ps : List (List ℕ)). low_first (get_or ps k [])) c.as_chunks.ensures.front ∙ low_first-pair xs (length xs / 2) k (omega arith))))

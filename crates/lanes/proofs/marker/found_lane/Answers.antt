@@ -1,10 +1,17 @@
-use Rattle.std.proofs.Common.{◌∙◌}
-use Rattle.lanes.proofs.Lanes.{the_lane, sent_lane}
+use Rattle.std.proofs.Common.{◌≡◌, ℕ, Bool, true, false, rules, ap, ◌∙◌}
+use Rattle.std.proofs.lemmas.Iterator.{first_from_Range}
+use Rattle.blocks.specs.Calls.{lowest}
+use Rattle.lanes.specs.Markers.{passes, found}
+use Rattle.lanes.proofs.Lanes.{lowest_first, the_lane, sent_lane}
 use Rattle.lanes.proofs.marker.found_lane.Goals as goal
 
 pub returns : goal.returns
-returns g c = record {
-  lane = c.lowest_lane.ensures;
-  only = λ l e. c.lowest_lane.ensures ∙ the_lane g.met.R.Rate.lawful c.args.window l e;
-  sent = λ l h e. c.lowest_lane.ensures ∙ sent_lane g.met.R.Rate.lawful c.args.window l h e;
-}
+returns g c =
+    let test : ℕ → Bool = passes g.R.Rate.LANES g.R.Rate.octet c.args.window in
+    let first = first_from_Range _ _ _ _ (λ k. test k ≡ true) (λ k. test k ≡ false) c.find.ensures.ran (λ x q k. search rules) (λ x q k. search rules) in
+    let e : c.find.result ≡ found g.R.Rate.LANES g.R.Rate.octet c.args.window = lowest_first test c.LANES.result _ first ∙ ap (lowest test) c.LANES.ensures in
+    record {
+      lane = e;
+      only = λ l p. e ∙ the_lane g.met.R.Rate.lawful c.args.window l p;
+      sent = λ l h p. e ∙ sent_lane g.met.R.Rate.lawful c.args.window l h p;
+    }

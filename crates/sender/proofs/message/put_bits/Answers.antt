@@ -1,18 +1,10 @@
-use Rattle.std.proofs.Common.{◌≡◌, ℕ, ◌+◌, List, ◌++◌, take, drop, ap, ◌∙◌, append_assoc, arith}
-use Rattle.blocks.specs.Bits.{field}
-use Rattle.sender.proofs.Messaged.{bit_put, bits_none}
+use Rattle.std.proofs.Common.{ℕ, ◌+◌, length, sym, ap, ◌∙◌, arith}
+use Rattle.blocks.specs.Bits.{bit}
+use Rattle.blocks.proofs.Scrambles.{field-table}
+use Rattle.sender.proofs.Messaged.{symbols_all}
 use Rattle.sender.proofs.message.put_bits.Goals as goal
-
-pub loop-i-init : goal.loop-i-init
-loop-i-init c = bits_none c.args.bits.now c.args.at c.args.x
-
-pub loop-i-preserved : goal.loop-i-preserved
-loop-i-preserved c = bit_put c.args.bits.now c.loop-i.bits c.args.at c.args.x c.loop-i.i (omega arith) c.loop-i.invariant
 
 pub returns : goal.returns
 returns c =
-    let n : c.loop-i.i ≡ c.args.n = omega arith in
-    let entry : List ℕ = c.args.bits.now in
-    let at : ℕ = c.args.at in
-    c.loop-i.invariant ∙ ap (λ (k : ℕ). (take at entry ++ field c.args.x 0 k) ++ drop (at + k) entry) n
-    ∙ append_assoc (take at entry) (field c.args.x 0 c.args.n) (drop (at + c.args.n) entry)
+    let n : ℕ = length c.args.bits.now in
+    symbols_all c.loop-i.bits (λ i. bit c.args.x (0 + i)) n (omega arith) (λ k h. c.loop-i.invariant k (omega arith) ∙ ap (bit c.args.x) (omega arith)) ∙ sym (field-table c.args.x 0 n)

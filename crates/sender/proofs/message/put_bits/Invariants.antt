@@ -1,6 +1,6 @@
-use Rattle.std.proofs.Common.{◌≡◌, ◌+◌, ◌++◌, take, drop}
-use Rattle.blocks.specs.Bits.{field}
+use Rattle.std.proofs.Common.{◌≡◌, ℕ, ◌<◌, get_or}
+use Rattle.blocks.specs.Bits.{bit}
 use Rattle.sender.proofs.message.put_bits.Given as goal
 
 abbrev pub invariant-loop-i : goal.invariant-loop-i
-invariant-loop-i l = l.bits ≡ (take l.at l.initial.bits ++ field l.x 0 l.i) ++ drop (l.at + l.i) l.initial.bits
+invariant-loop-i l = (k : ℕ) → k < l.i → get_or l.bits k 0 ≡ bit l.x k

@@ -1,45 +1,103 @@
-use Rattle.std.proofs.Common.{◌≡◌, ℕ, ◌+◌, ◌*◌, List, ◌++◌, length, take, drop, sym, refl, ap, ◌∙◌, append_assoc, arith}
+use Rattle.std.proofs.Common.{◌≡◌, ℕ, ◌+◌, ◌*◌, ◌/◌, ◌≤◌, List, [], ◌∷◌, ◌++◌, length, drop, sym, ap, ◌∙◌, append-nil, arith, rules, length-append, length-drop}
+use Rattle.std.specs.Slice.Iter.{chunks_exact_rest}
+use Rattle.blocks.specs.Bits.{table}
+use Rattle.blocks.specs.Blocks.{blocks_in}
+use Rattle.blocks.specs.Calls.{four_refused}
 use Rattle.blocks.specs.Groups.{bits_of, group_bits}
 use Rattle.blocks.specs.Memories.{out_memory}
-use Rattle.blocks.specs.Bits.{table}
 use Rattle.blocks.specs.Scrambled.{scrambled_bits, scrambler_after}
 use Rattle.blocks.specs.declared.block.Block.{Block}
 use Rattle.sender.specs.Lines.{blocks_of}
-use Rattle.sender.specs.Messages.{group_stream}
-use Rattle.sender.proofs.Grouping.{memory_kept, memory_more, group_more}
-use Rattle.sender.proofs.Messaged.{put_none}
-use Rattle.sender.proofs.Streams.{length_blocks, blocks_group}
+use Rattle.sender.specs.Messages.{group_at, group_stream}
+use Rattle.sender.proofs.Grouping.{no_bad_kind, four_blocks, four_room, four_is, behind_is, grouped_ok, grouped_bits, memory_kept, memory_more, group_more}
+use Rattle.sender.proofs.Streams.{length_blocks, blocks_group, length-scrambled, length_stream}
 use Rattle.sender.proofs.send.put_groups.Goals as goal
 
-pub loop-g-init : goal.loop-g-init
+pub loop-four-init : goal.loop-four-init
 unfolding group_stream scrambled_bits table
-loop-g-init c = (put_none c.args.bits.now c.args.at _ refl, memory_kept c.args.scrambler.now.memory)
+loop-four-init c = record {
+  can_next = search rules;
+  is_finite = tt;
+  size = search rules;
+  rest = search rules;
+  inside = omega arith;
+  bits = sym (append-nil c.args.message.now);
+  memory = memory_kept c.args.scrambler.now;
+}
 
-pub loop-g-preserved : goal.loop-g-preserved
-loop-g-preserved c =
+pub unwrap-group-requires : goal.unwrap-group-requires
+unwrap-group-requires c =
     let records : List ℕ = c.args.records.now in
-    let bs : List Block = blocks_of c.args.groups records in
-    let g : ℕ = c.loop-g.g in
+    let g : ℕ = length c.loop-four.yielded in
+    let inv = c.loop-four.invariant in
+    let steps = c.in-Some.ensures.steps in
+    let four : List ℕ = c.in-Some.four.now in
+    let rest : List ℕ = chunks_exact_rest c.loop-four.four-iterator in
+    let behind : List ℕ = chunks_exact_rest c.next.new.self in
+    let size : length four ≡ 36 = steps.1.1 ∙ inv.size in
+    grouped_ok four c.group_of.result c.group_of.ensures
+    (ap four_refused (four_is records rest four behind g inv.rest inv.inside steps.1.0 size)
+    ∙ no_bad_kind records g (four_room records rest four behind g inv.rest inv.inside steps.1.0 size) c.requires.records)
+
+pub push_group-requires : goal.push_group-requires
+push_group-requires c =
+    let records : List ℕ = c.args.records.now in
+    let g : ℕ = length c.loop-four.yielded in
+    let inv = c.loop-four.invariant in
+    let steps = c.in-Some.ensures.steps in
+    let four : List ℕ = c.in-Some.four.now in
+    let size : length four ≡ 36 = steps.1.1 ∙ inv.size in
+    let room = four_room records (chunks_exact_rest c.loop-four.four-iterator) four (chunks_exact_rest c.next.new.self) g inv.rest inv.inside steps.1.0 size in
+    let bs : List Block = blocks_of (length records / 36) records in
+    let n : length bs ≡ 4 * (length records / 36) = length_blocks (4 * (length records / 36)) records in
+    let s : List ℕ = scrambled_bits (out_memory c.args.scrambler.now) (group_stream bs g) in
+    let k : length s ≡ 257 * g = length-scrambled (out_memory c.args.scrambler.now) (group_stream bs g) ∙ length_stream bs g (omega arith) in
+    let m : length c.loop-four.message ≡ length c.args.message.now + length s = ap length inv.bits ∙ length-append c.args.message.now s in
+    let r = c.requires.room in
+    omega arith
+
+pub loop-four-preserved : goal.loop-four-preserved
+loop-four-preserved c =
+    let records : List ℕ = c.args.records.now in
+    let g : ℕ = length c.loop-four.yielded in
+    let inv = c.loop-four.invariant in
+    let steps = c.in-Some.ensures.steps in
+    let four : List ℕ = c.in-Some.four.now in
+    let rest : List ℕ = chunks_exact_rest c.loop-four.four-iterator in
+    let behind : List ℕ = chunks_exact_rest c.next.new.self in
+    let size : length four ≡ 36 = steps.1.1 ∙ inv.size in
+    let room : 36 * g + 36 ≤ length records = four_room records rest four behind g inv.rest inv.inside steps.1.0 size in
+    let more : length (c.loop-four.yielded ++ c.in-Some.four ∷ []) ≡ g + 1 = length-append c.loop-four.yielded _ in
+    let n : ℕ = length records / 36 in
+    let bs : List Block = blocks_of n records in
+    let group : List ℕ = bits_of c.unwrap-group.result in
     let m : List ℕ = out_memory c.args.scrambler.now in
-    let inv = c.loop-g.invariant in
-    let n : length bs ≡ 4 * c.args.groups = length_blocks (4 * c.args.groups) records in
-    let group : List ℕ = bits_of c.group_at.result in
-    let e : group ≡ group_bits _ = c.group_at.ensures ∙ ap group_bits (sym (blocks_group c.args.groups g records (omega arith))) in (
-      group_more bs g m (out_memory c.loop-g.scrambler) group (bits_of c.scramble-group.result) inv.1 e c.args.bits.now c.loop-g.bits c.put_group.new.bits c.args.at
-          (omega arith) (omega arith) c.scramble-group.ensures.out inv.0 c.put_group.ensures,
-      memory_more bs g m (out_memory c.loop-g.scrambler) group (bits_of c.scramble-group.result) inv.1 e (out_memory c.scramble-group.new.self) c.scramble-group.ensures.after,
-    )
+    let memory : List ℕ = out_memory c.loop-four.scrambler in
+    let is : group ≡ group_bits (group_at bs g) =
+    grouped_bits four c.group_of.result c.unwrap-group.result c.unwrap-group.ensures c.group_of.ensures
+    ∙ ap (λ (xs : List ℕ). group_bits (blocks_in 4 xs)) (four_is records rest four behind g inv.rest inv.inside steps.1.0 size)
+    ∙ ap group_bits (four_blocks records g room ∙ sym (blocks_group n g records (omega arith))) in
+    record {
+      can_next = search rules;
+      is_finite = tt;
+      size = steps.0 ∙ inv.size;
+      rest = behind_is records rest four behind g inv.rest inv.inside steps.1.0 size ∙ ap (λ (k : ℕ). drop (36 * k) records) (sym more);
+      inside = omega arith;
+      bits = group_more bs g m memory group (bits_of c.scramble.result) inv.memory is c.args.message.now c.loop-four.message c.push_group.new.self c.scramble.ensures.out inv.bits c.push_group.ensures
+          ∙ ap (λ (k : ℕ). c.args.message.now ++ scrambled_bits m (group_stream bs k)) (sym more);
+      memory = memory_more bs g m memory group (bits_of c.scramble.result) inv.memory is (out_memory c.scramble.new.self) c.scramble.ensures.after
+          ∙ ap (λ (k : ℕ). scrambler_after m (group_stream bs k)) (sym more);
+    }
 
 pub returns : goal.returns
 returns c =
     let records : List ℕ = c.args.records.now in
-    let bs : List Block = blocks_of c.args.groups records in
+    let bs : List Block = blocks_of (length records / 36) records in
     let m : List ℕ = out_memory c.args.scrambler.now in
-    let entry : List ℕ = c.args.bits.now in
-    let at : ℕ = c.args.at in
-    let n : c.loop-g.g ≡ c.args.groups = omega arith in
+    let inv = c.loop-four.invariant in
+    let g : ℕ = length c.loop-four.yielded in
+    let all : g ≡ length records / 36 = omega (arith, c.in-None.ensures.steps.1.0, inv.size, ap length inv.rest, length-drop (36 * g) records) in
     record {
-      bits = c.loop-g.invariant.0 ∙ ap (λ (k : ℕ). (take at entry ++ scrambled_bits m (group_stream bs k)) ++ drop (at + 257 * k) entry) n
-          ∙ append_assoc (take at entry) (scrambled_bits m (group_stream bs c.args.groups)) (drop (at + 257 * c.args.groups) entry);
-      memory = c.loop-g.invariant.1 ∙ ap (λ (k : ℕ). scrambler_after m (group_stream bs k)) n;
+      bits = inv.bits ∙ ap (λ (k : ℕ). c.args.message.now ++ scrambled_bits m (group_stream bs k)) all;
+      memory = inv.memory ∙ ap (λ (k : ℕ). scrambler_after m (group_stream bs k)) all;
     }

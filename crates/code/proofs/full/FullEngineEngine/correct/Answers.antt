@@ -1,39 +1,45 @@
 -- What is stored is the codeword that was proposed.
-use Rattle.std.proofs.Common.{refl, arith, rules}
-use Rattle.code.specs.Code.{WellFormed}
-use Rattle.code.proofs.Answered.{untouched, stored}
-use Rattle.code.proofs.Decoded.{none-accepted}
+use Rattle.std.proofs.Common.{MatchBool, ◌≡◌, ◌≤◌, length, sym, refl, ap, subst, arith}
+use Rattle.code.specs.declared.refusal.Refusal.TheVariants.{Reach}
+use Rattle.code.specs.Code.{Codeword, distance}
+use Rattle.code.specs.Answers.{Refused, Repaired}
+use Rattle.code.proofs.Answered.{untouched}
 use Rattle.code.proofs.WordRemainders.{codeword, word_values}
+use Rattle.code.proofs.Words.{formed}
 use Rattle.code.proofs.full.FullEngineEngine.correct.Goals as goal
-use Rattle.code.proofs.full.FullEngineEngine.correct.Goals.{then-not-propose-via-then-not-propose, then-not-propose-via-else-not-propose+then-not-is_accepted}
 
 pub returns-then-is_zero : goal.returns-then-is_zero
 returns-then-is_zero c =
-    let formed : WellFormed c.args.word.now = search rules in
-    untouched 15 _ (codeword c.args.word.now c.remainder-register.result formed c.remainder-register.ensures c.if-is_zero.ensures)
+    let r = c.in_ok-received.received in
+    subst (λ w. Repaired 15 w w 0) c.in_ok-received.ensures
+    (untouched 15 r.symbols.now (codeword r.symbols.now c.remainder-remainder.result.symbols (formed r) c.remainder-remainder.ensures c.if-is_zero.ensures))
 
 pub propose-requires : goal.propose-requires
 propose-requires c =
-    let w = c.args.word.now in
-    let formed : WellFormed w = search rules in
-    record {
-      formed = formed;
-      syndromes = (word_values w c.remainder-register.result c.find_syndromes.new.syndromes c.remainder-register.ensures c.find_syndromes.ensures, search rules);
-      sizes = (search rules, search rules);
-    }
+    word_values c.in_ok-received.received.symbols.now c.remainder-remainder.result.symbols c.find_syndromes-syndromes.result c.remainder-remainder.ensures c.find_syndromes-syndromes.ensures
 
-pub returns-then-not-propose : goal.returns-then-not-propose
-returns-then-not-propose c =
-    let w = c.args.word.now in
-    let formed : WellFormed w = search rules in
-    elim c.then-not-propose.branch [
-      | then-not-propose-via-then-not-propose x ↦ (refl, (formed, x.if-not-propose.ensures))
-      | then-not-propose-via-else-not-propose+then-not-is_accepted x ↦ (refl, (formed, none-accepted w c.propose.new.corrected x.if-not-propose.ensures.1 x.if-not-is_accepted.ensures))
-    ]
+pub returns-then-not-is_accepted : goal.returns-then-not-is_accepted
+returns-then-not-is_accepted c =
+    let r = c.in_ok-received.received in
+    let v = c.in_ok-corrected.corrected in
+    let none : Codeword v → ⊥ = subst (λ b. MatchBool b (Codeword v) (Codeword v → ⊥)) c.if-not-is_accepted.true c.has_roots-is_accepted.ensures in
+    (refl, subst (λ w. Refused 15 w Reach) c.in_ok-received.ensures (formed r, λ u code near. none (subst Codeword (c.in_ok-corrected.ensures.only u code near) code)))
+
+pub copy_from_slice-requires : goal.copy_from_slice-requires
+copy_from_slice-requires c =
+    let long = c.in_ok-received.received.whole in
+    let e : length c.in_ok-received.received.symbols.now ≡ length c.args.word.now = ap length c.in_ok-received.ensures in
+    let size = c.in_ok-corrected.ensures.formed.size in
+    omega arith
 
 pub returns : goal.returns
 returns c =
-    let w = c.args.word.now in
-    let v = c.store.new.word in
-    let formed : WellFormed w = search rules in
-    stored w v c.propose.new.corrected c.count_changes-count.result formed (omega arith) (λ i l. c.store.ensures i (omega arith)) (c.if-not-propose.ensures.0, c.if-not-is_accepted.ensures) c.count_changes-count.ensures
+    let r = c.in_ok-received.received in
+    let v = c.in_ok-corrected.corrected in
+    let n = c.count_changes-count.result in
+    let code : Codeword v = subst (λ b. MatchBool b (Codeword v) (Codeword v → ⊥)) c.if-not-is_accepted.false c.has_roots-is_accepted.ensures in
+    let count : n ≡ distance r.symbols.now v = c.count_changes-count.ensures in
+    let near : distance r.symbols.now v ≤ 15 = c.in_ok-corrected.ensures.near in
+    let repaired : Repaired 15 r.symbols.now v n = record { formed = formed r; codeword = code; changed = sym count; within = omega arith } in
+    subst (λ w. Repaired 15 w c.copy_from_slice.new.self n) c.in_ok-received.ensures
+    (subst (λ u. Repaired 15 r.symbols.now u n) (sym c.copy_from_slice.ensures.after) repaired)

@@ -1,10 +1,28 @@
--- The inverse is below 1,024.
-use Rattle.gf1024.specs.Closed.{inverse_lt}
-use Rattle.gf1024.specs.ElementsLemmas.{same}
+-- The power whose exponent fills up to 1,023 is the inverse.
+use Rattle.std.proofs.Common.{◌≡◌, ◌+◌, ◌-◌, ◌<◌, ℕ, sym, ap, ◌∙◌, ap₂, ⊎_elim, eq-zero-or-pos, arith}
+use Rattle.field.proofs.Algebra.{zero-times}
+use Rattle.field.specs.Sums.{pow}
+use Rattle.field.proofs.Powers.{pow_add}
+use Rattle.gf1024.specs.declared.element.Element.{Element}
+use Rattle.gf1024.specs.Laws.{inverse_is, inverse_zero}
+use Rattle.gf1024.specs.Field.{group, ring, alpha}
+use Rattle.gf1024.specs.ElementsLemmas.{same, field_laws, laws}
 use Rattle.gf1024.proofs.operations.ElementField.inv.Goals as goal
 
-pub invariant_of-result : goal.invariant_of-result
-invariant_of-result c = record { small = rw c.inv.ensures (inverse_lt _ c.args.self.small) }
+-- there is one inverse only
+over_is : (x y : Element) → ring.times x y ≡ ring.one → y ≡ ring.over x
+over_is x y e = same _ _ (inverse_is x.value y.value positive x.small y.small (ap (λ (z : Element). z.value) e))
+  where
+    positive : 0 < x.value
+    positive =
+        ⊎_elim (λ z. absurd (field_laws.proper (sym e ∙ ap (λ a. ring.times a y) (same x group.zero z) ∙ zero-times group ring field_laws y))) (λ l. l) (eq-zero-or-pos x.value)
 
-pub returns : goal.returns
-returns c = same _ _ c.inv.ensures
+pub returns-in-Some : goal.returns-in-Some
+returns-in-Some c =
+    let i : ℕ = c.in-Some.i in
+    let e : i + (1023 - i) ≡ 1023 = omega (arith, c.in-Some.ensures.0) in
+    over_is c.args.self c.exp.result
+    (ap₂ ring.times (sym c.in-Some.ensures.1) c.exp.ensures ∙ sym (pow_add group ring field_laws alpha i (1023 - i)) ∙ ap (pow ring alpha) e ∙ laws.cycle)
+
+pub returns-in-None : goal.returns-in-None
+returns-in-None c = c.in-None.ensures ∙ sym (ap ring.over c.in-None.ensures ∙ same _ _ inverse_zero)

@@ -4,7 +4,7 @@ use Rattle.sender.specs.View.{Made}
 use Rattle.sender.specs.declared.refusal.Refusal.{Refusal}
 use Rattle.sender.specs.declared.refusal.Refusal.TheVariants.{Blocks}
 use Rattle.sender.specs.declared.state.Sender.{Sender}
-use Rattle.sender.proofs.ByHand.{hand_checked}
+use Rattle.lanes.proofs.ByHand.{hand_checked}
 use Rattle.sender.proofs.state.Sender.new.Goals as goal
 
 pub returns-in_err-scrambler : goal.returns-in_err-scrambler
@@ -20,7 +20,7 @@ returns-in_err-scrambler g c =
 pub returns-in_err-pad : goal.returns-in_err-pad
 returns-in_err-pad g c =
     let p = err_from_is_err_and c.from_residual-in_err-pad.result c.from_residual-in_err-pad.ensures.1 in
-    let h = c.in_err-pad.ensures in
+    let h = c.in_err-pad.ensures.started in
     record {
       made = subst (λ (r : Result (Sender g.row.R.Denot) Refusal). Made c.args.scramble c.args.pad c.args.status r) (sym (p.1 ∙ ap Err (p.2 ∙ ap Blocks h.1)))
           ((λ a. h.0 (a.pad_above, a.pad_below)), refl);
@@ -33,7 +33,7 @@ returns-then-status-gt-LAST_STATUS g c = record { made = ((λ a. let b = a.statu
 pub returns : goal.returns
 returns g c =
     let s = c.in_ok-scrambler.ensures in
-    let p = c.in_ok-pad.ensures in
+    let p = c.in_ok-pad.ensures.started in
     record {
       made = (
         record { start_of_58 = s.0; pad_above = p.0; pad_below = p.1; status_below = omega arith },

@@ -1,7 +1,0 @@
--- The rows passed are shifted.
-use Rattle.std.proofs.Common.{◌*◌}
-use Rattle.code.specs.Division.{Shifted}
-use Rattle.code.proofs.remainder.shift.Given as goal
-
-abbrev pub invariant-loop-q : goal.invariant-loop-q
-invariant-loop-q l = Shifted l.initial.register l.feedback 0 (8 * l.q) l.register

@@ -1,0 +1,6 @@
+use Rattle.std.proofs.Common.{◌≡◌, ◌*◌, ◌/◌, ◌++◌, drop}
+use Rattle.sender.specs.Strips.{strip_octets}
+use Rattle.sender.proofs.strip.Words.fill_strip.Given as goal
+
+abbrev pub invariant-loop-lane : goal.invariant-loop-lane
+invariant-loop-lane g l = l.strip ≡ strip_octets g.R.Rate.LANES l.self.a l.self.b l.lane ++ drop (l.lane * (1360 / g.R.Rate.LANES)) l.initial.strip
