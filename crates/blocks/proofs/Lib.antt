@@ -9,5 +9,6 @@ pub mod Reading
 pub mod Returned
 pub mod Walking
 pub mod Scrambles
+pub mod Passing
 pub mod Words
 pub mod Shapes

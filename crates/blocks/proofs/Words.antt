@@ -1,5 +1,5 @@
 -- Scrambling by words of 64 bits: output y and memory m as one number, the memory's 58 bits lowest.
-use Rattle.std.proofs.Common.{◌≡◌, ℕ, zero, suc, ◌+◌, ◌-◌, ◌*◌, ◌/◌, ◌%◌, ◌^◌, ◌<◌, ◌≤◌, Bool, true, false, List, [], ◌∷◌, ◌++◌, sym, refl, ap, ◌∙◌, subst, ap₂, inl, inr, append-nil, add-zero, add-suc, mul_assoc, mul_comm, add-mul, suc-add, zero-add, div-one, one-add, arith}
+use Rattle.std.proofs.Common.{◌≡◌, ℕ, zero, suc, ◌+◌, ◌-◌, ◌*◌, ◌/◌, ◌%◌, ◌^◌, ◌<◌, ◌≤◌, Bool, true, false, List, [], ◌∷◌, sym, refl, ap, ◌∙◌, subst, ap₂, inl, inr, add-zero, add-suc, mul_assoc, mul_comm, add-mul, suc-add, zero-add, div-one, one-add, arith}
 use native.Mathlib.Nat.{mul-mod_left, mul-add-mod_self_right}
 use lib.Bits.{bit_xor, xor_assoc, xor_comm, xor_zero_r, xor_shr, xor_mod, xor_shifted, xor_block}
 use Rattle.std.proofs.lemmas.Nat.{shr-shr, pow-add, pow_pos, shl-shr, mod_low, shr_high, div-add-mod'}
@@ -7,7 +7,7 @@ use Rattle.std.specs.Int.{reverse_bits_onto}
 use Rattle.std.proofs.lemmas.Bool.{cases_lt}
 use Rattle.blocks.specs.Bits.{bit, field, table, nth}
 use Rattle.blocks.specs.Scrambled.{before, scrambled, received, descrambled, scrambled_bits, scrambler_after, descrambled_bits, descrambler_after, memory_in}
-use Rattle.blocks.specs.Groups.{words, one_if}
+use Rattle.blocks.specs.Groups.{one_if}
 use Rattle.blocks.specs.Taps.{tail, taps}
 use Rattle.blocks.proofs.Fields.{length-field, bit-mod}
 use Rattle.blocks.proofs.Scrambles.{cancel, table_same, nth-table, field-table, before_same, received-same}
@@ -285,31 +285,3 @@ module _ (m : ℕ) (small : m < 2 ^ 58) where
         sym (one_field d k) ∙ sym (word_back m y small 1 d (λ i l. one_bit m y d y i small l e)) ∙ ap (descrambled_bits (memory_in m)) (one_field y h),
         ap memory_in f ∙ sym (word_heard m y small 1 (m / 2 + y * 2 ^ 57) (λ j l. memory_1 m y j l)) ∙ ap (descrambler_after (memory_in m)) (one_field y h),
       )
-
--- a group through five steps: bit 0, then four words
-module _ (S T : List ℕ → List ℕ → List ℕ)
-    (SAppend : (m xs ys : List ℕ) → S m (xs ++ ys) ≡ S m xs ++ S (T m xs) ys)
-    (TAppend : (m xs ys : List ℕ) → T m (xs ++ ys) ≡ T (T m xs) ys)
-  where
-    one_more : (m n xs out ys rest : List ℕ) → out ≡ S m xs → n ≡ T m xs → rest ≡ S n ys → out ++ rest ≡ S m (xs ++ ys)
-    one_more m n xs out ys rest e f g = ap₂ (λ (u v : List ℕ). u ++ v) e (g ∙ ap (λ (k : List ℕ). S k ys) f) ∙ sym (SAppend m xs ys)
-
-    on : (m n p xs ys : List ℕ) → n ≡ T m xs → p ≡ T n ys → p ≡ T m (xs ++ ys)
-    on m n p xs ys f g = g ∙ ap (λ (k : List ℕ). T k ys) f ∙ sym (TAppend m xs ys)
-
-    module _ (f g a b c d a' b' c' d' : ℕ) (m0 m1 m2 m3 m4 m5 : List ℕ)
-        (ef : g ∷ [] ≡ S m0 (f ∷ [])) (tf : m1 ≡ T m0 (f ∷ []))
-        (ea : field a' 0 64 ≡ S m1 (field a 0 64)) (ta : m2 ≡ T m1 (field a 0 64))
-        (eb : field b' 0 64 ≡ S m2 (field b 0 64)) (tb : m3 ≡ T m2 (field b 0 64))
-        (ec : field c' 0 64 ≡ S m3 (field c 0 64)) (tc : m4 ≡ T m3 (field c 0 64))
-        (ed : field d' 0 64 ≡ S m4 (field d 0 64)) (td : m5 ≡ T m4 (field d 0 64))
-      where
-        pub five_out : g ∷ words (a' ∷ b' ∷ c' ∷ d' ∷ []) ≡ S m0 (f ∷ words (a ∷ b ∷ c ∷ d ∷ []))
-        five_out =
-            let last : field d' 0 64 ++ [] ≡ S m4 (field d 0 64 ++ []) = append-nil (field d' 0 64) ∙ ed ∙ ap (S m4) (sym (append-nil (field d 0 64))) in
-            one_more m0 m1 (f ∷ []) (g ∷ []) _ _ ef tf (one_more m1 m2 (field a 0 64) (field a' 0 64) _ _ ea ta (one_more m2 m3 (field b 0 64) (field b' 0 64) _ _ eb tb (one_more m3 m4 (field c 0 64) (field c' 0 64) _ _ ec tc last)))
-
-        pub five_after : m5 ≡ T m0 (f ∷ words (a ∷ b ∷ c ∷ d ∷ []))
-        five_after =
-            let last : m5 ≡ T m4 (field d 0 64 ++ []) = td ∙ ap (T m4) (sym (append-nil (field d 0 64))) in
-            on m0 m1 m5 (f ∷ []) _ tf (on m1 m2 m5 (field a 0 64) _ ta (on m2 m3 m5 (field b 0 64) _ tb (on m3 m4 m5 (field c 0 64) _ tc last)))

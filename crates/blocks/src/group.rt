@@ -44,22 +44,18 @@ fn first_control(headers: &[Header; 4]) -> Option<usize>
     headers.iter().position(|&h| h == Header::Control)
 }
 
-// By a match: the discriminants of an enum are no header bits.
 fn flag(h: Header) -> u64
     ensures value { result ≡ second_bit h }
     ensures bound { result < 2 }
 {
-    match h {
-        Header::Zeros | Header::Control => 0,
-        Header::Data | Header::Ones => 1,
-    }
+    u64::from(matches!(h, Header::Data | Header::Ones))
 }
 
 // The second header bits, the first block's lowest.
 fn flags(headers: [Header; 4]) -> u64
     ensures { result ≡ number (map second_bit headers) }
 {
-    // By weights: a fold over the headers from the last on would be no plainer.
+    // By weights: `headers.iter().rev().fold(0, |x, h| (x << 1) | flag(*h))` is no plainer than this sum.
     let [a, b, c, d] = headers.map(flag);
     a + 2 * b + 4 * c + 8 * d
 }

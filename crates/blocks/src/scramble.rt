@@ -15,11 +15,18 @@ use std::marker::PhantomData;
 const START_LIMIT: u64 = 1 << 58;
 
 // A start value as a memory: its lowest bit is the newest.
-fn memory_from(start: u64) -> Memory
-    ensures { memory_in result ≡ field start 0 58 }
-{
-    Memory {
-        bits: start.reverse_bits() >> 6,
+impl TryFrom<u64> for Memory {
+    type Error = Refusal;
+
+    ghost try_from_gives = { Started memory_in };
+
+    fn try_from(start: u64) -> Result<Memory, Refusal> {
+        if start >= START_LIMIT {
+            return Err(Refusal::Start);
+        }
+        Ok(Memory {
+            bits: start.reverse_bits() >> 6,
+        })
     }
 }
 
@@ -108,29 +115,20 @@ fn pass<D: Direction>(memory: &mut Memory, group: Group) -> Group
     ensures gives { bits_of result ≡ D.run (memory_in memory.old) (bits_of group) }
     ensures leaves { memory_in memory.new ≡ D.after (memory_in memory.old) (bits_of group) }
 {
-    let Group { first, parts } = group;
-    let [a, b, c, d] = parts;
-    let first = D::bit(memory, first);
-    // Word by word: no clause of `map` says what its closure leaves the memory as.
-    let a = D::word(memory, a);
-    let b = D::word(memory, b);
-    let c = D::word(memory, c);
-    let d = D::word(memory, d);
-    Group {
-        first,
-        parts: [a, b, c, d],
+    let first = D::bit(memory, group.first);
+    let mut parts = group.parts;
+    for x in parts.iter_mut() {
+        *x = D::word(memory, *x);
     }
+    Group { first, parts }
 }
 
 impl<D> Stream<D> {
     pub fn new(start: u64) -> Result<Stream<D>, Refusal>
         ensures { Started memory_of start result }
     {
-        if start >= START_LIMIT {
-            return Err(Refusal::Start);
-        }
         Ok(Stream {
-            memory: memory_from(start),
+            memory: Memory::try_from(start)?,
             direction: PhantomData,
         })
     }

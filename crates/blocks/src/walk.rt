@@ -65,6 +65,7 @@ impl<'a> Reader<'a> {
     }
 
     // The next record and its index, or none behind the last. A refused read moves nothing.
+    // No `Iterator`: a refused read is refused again, so an iterator would never end.
     pub fn next(&mut self) -> Result<Option<(usize, Record<'a>)>, Refusal>
         ensures answer { shown result ≡ look self.old.index (rest_at self.old.src.now self.old.index) }
         ensures source { self.new.src.now ≡ self.old.src.now }

@@ -13,6 +13,7 @@ use super::remainder::ShiftRegister;
 use super::symbols::{ROOTS, SIZE, Word};
 use decoder::{Row, Work};
 use gf1024::Element;
+use std::array;
 
 // The number of symbols that it can correct: half the number of roots.
 const REACH: usize = 15;
@@ -76,12 +77,7 @@ impl FullEngine {
 fn load(symbols: &[u16; SIZE]) -> [Element; SIZE]
     ensures { Loaded symbols.now 544 result }
 {
-    let mut elements = [gf1024::from_bits(0); SIZE];
-    // By a loop: `symbols.map(..)` measured slower, and with `from_fn` the proof does not close.
-    for (i, s) in symbols.iter().enumerate() {
-        elements[i] = gf1024::from_bits(*s);
-    }
-    elements
+    array::from_fn(|i| gf1024::from_bits(symbols[i]))
 }
 
 // The elements as symbols.
@@ -89,7 +85,7 @@ fn store(elements: &[Element; SIZE]) -> [u16; SIZE]
     ensures { Stored elements.now 544 result }
 {
     let mut symbols = [0; SIZE];
-    // By a loop, for the same reason.
+    // By a loop: `elements.map(..)` measured slower, and with `from_fn` the closure's goal `listed` does not close.
     for (i, e) in elements.iter().enumerate() {
         symbols[i] = e.value;
     }

@@ -400,5 +400,5 @@ pub fn product(a: u16, q: usize, r: usize) -> u16
     requires { (a < 1024) × ((q < 4) × (r < 8)) }
     ensures { result ≡ times a (tap (8 * q + r)) }
 {
-    LOW[a as usize % 32][q][r] ^ HIGH[a as usize / 32][q][r]
+    LOW[usize::from(a) % 32][q][r] ^ HIGH[usize::from(a) / 32][q][r]
 }

@@ -4,6 +4,7 @@ ghost use Rattle.code.specs.Answers.{number_of, place_of};
 ghost use Rattle.code.specs.declared.refusal.Refusal.TheVariants.{Reach};
 
 use decoder::OutOfReach;
+use std::error::Error;
 use std::fmt;
 
 #[derive(Clone, Copy, PartialEq, Eq, Debug)]
@@ -62,3 +63,5 @@ impl fmt::Display for Refusal {
         write!(f, "{number} {place}")
     }
 }
+
+impl Error for Refusal {}

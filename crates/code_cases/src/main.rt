@@ -6,8 +6,8 @@
 ghost use Rattle.std.specs.Prelude.{◌<◌};
 
 use code::{Engine, FullEngine, Refusal, WatchEngine};
-use std::io;
 use std::io::{BufRead, BufReader};
+use std::{array, io};
 
 // Symbols that are the same on every run. The program repair has a copy: a crate for both would be longer.
 #[derive(Drop)]
@@ -100,35 +100,47 @@ fn damage(word: &mut [u16; 544], count: usize, sequence: &mut Sequence) {
     }
 }
 
-// Tries 20 words with each number of changed symbols: how many pass, of how many. `is_right` is given a word as it was
+// How many words were tried, and of how many the answer was right.
+#[derive(Clone, Copy)]
+struct Count {
+    tried: u64,
+    right: u64,
+}
+
+impl Count {
+    fn add(&mut self, right: bool) {
+        self.tried = self.tried.saturating_add(1);
+        if right {
+            self.right = self.right.saturating_add(1);
+        }
+    }
+}
+
+// Tries 20 words with each number of changed symbols. `is_right` is given a word as it was
 // sent and as it was received, and the number.
 fn try_words<F: FnMut(&[u16; 544], &[u16; 544], usize) -> bool>(
     seed: u32,
     fewest: usize,
     most: usize,
     mut is_right: F,
-) -> (u64, u64)
+) -> Count
     requires { F.IsAlwaysCallable is_right }
 {
-    let mut tried = 0u64;
-    let mut right = 0u64;
+    let mut count = Count { tried: 0, right: 0 };
     let mut sequence = Sequence { seed };
     for _ in 0..20 {
         for n in fewest..=most {
             let sent = random_word(&mut sequence);
             let mut received = sent;
             damage(&mut received, n, &mut sequence);
-            tried = tried.saturating_add(1);
-            if is_right(&sent, &received, n) {
-                right = right.saturating_add(1);
-            }
+            count.add(is_right(&sent, &received, n));
         }
     }
-    (tried, right)
+    count
 }
 
 // Words with up to 15 changed symbols come back, with their number; the watch engine refuses those with any.
-fn try_within() -> (u64, u64) {
+fn try_within() -> Count {
     let mut full = FullEngine::new();
     let mut watch = WatchEngine::new();
     try_words(7, 0, 15, |sent, received, n| {
@@ -141,7 +153,7 @@ fn try_within() -> (u64, u64) {
 }
 
 // Words with more are refused and stay, or are left as another codeword that is within 15.
-fn try_beyond() -> (u64, u64) {
+fn try_beyond() -> Count {
     let mut full = FullEngine::new();
     try_words(11, 16, 31, |_, received, _| {
         let mut word = *received;
@@ -152,28 +164,24 @@ fn try_beyond() -> (u64, u64) {
     })
 }
 
-// Corrects N symbols that are 0 but one.
+// N symbols that are 0 but the one at a place.
+fn zeros_but<const N: usize>(at: usize, value: u16) -> [u16; N] {
+    array::from_fn(|i| if i == at { value } else { 0 })
+}
+
 fn correct<const N: usize>(at: usize, value: u16) -> Result<usize, Refusal>
     requires { N < 1024 }
 {
-    let mut word = [0u16; N];
-    if at < N {
-        word[at] = value;
-    }
-    FullEngine::new().correct(&mut word)
+    FullEngine::new().correct(&mut zeros_but::<N>(at, value))
 }
 
-// Encodes a message of N symbols that are 0 but one into a word of `ROOM`.
+// Encodes a message of N symbols into a word of `ROOM`.
 fn encode<const N: usize, const ROOM: usize>(at: usize, value: u16) -> Result<usize, Refusal>
     requires message { N < 1024 }
     requires word { ROOM < 1024 }
 {
-    let mut message = [0u16; N];
-    if at < N {
-        message[at] = value;
-    }
     let mut word = [0u16; ROOM];
-    code::encode(&message, &mut word).map(|()| 0)
+    code::encode(&zeros_but::<N>(at, value), &mut word).map(|()| 0)
 }
 
 // The number and place of a refusal, 0 and the count of an accepted correction.
@@ -204,9 +212,9 @@ fn try_refusals(rt: &HostRuntime) -> io::Result<()> {
 
 fn main(rt: HostRuntime) -> anyhow::Result<()> {
     try_codewords(&rt)?;
-    let (tried, right) = try_within();
+    let Count { tried, right } = try_within();
     println!(rt; "up to 15 changed: {tried} tried, {right} right")?;
-    let (tried, right) = try_beyond();
+    let Count { tried, right } = try_beyond();
     println!(rt; "16 to 31 changed: {tried} tried, {right} right")?;
     try_refusals(&rt)?;
     Ok(())

@@ -2,13 +2,18 @@
 use Rattle.std.specs.Prelude.{◌≡◌, ℕ, ◌<◌, List, [], slice_index_or}
 use Rattle.field.specs.Laws.{Group, Ring}
 use Rattle.decoder.specs.declared.elimination.Row.{Row}
-use Rattle.decoder.specs.Words.{Monic, Annihilates}
+use Rattle.decoder.specs.declared.window.Window.{Window}
+use Rattle.decoder.specs.Words.{applied, Monic, Annihilates}
 
 abbrev pub blank : {F : Type 0} → Row F
 blank = record { degree = 0; coefficients = [] }
 
 abbrev pub row_at : {F : Type 0} → List (Row F) → ℕ → Row F
 row_at rows i = slice_index_or rows i blank
+
+-- the row v applied to the syndromes of a window
+abbrev pub applied_to : {F : Type 0} → Group F → Ring F → List F → Window F → F
+applied_to g r v w = applied g r v w.s.now w.k w.n
 
 -- monic of its degree, and it annihilates the syndromes s below k
 pub record Candidate {F : Type 0} (g : Group F) (r : Ring F) (s : List F) (n k : ℕ) (x : Row F) : Type 0 where

@@ -1,24 +1,17 @@
 // Finds a locator: a monic polynomial of low degree that annihilates the syndromes.
-ghost use Rattle.std.specs.Prelude.{◌≡◌, ℕ, ◌+◌, ◌-◌, ◌*◌, ◌<◌, ◌≤◌, length, ◌≢◌, MatchBool, MatchOption};
-ghost use Rattle.decoder.specs.Elimination.{row_at, Candidate, Stage, Powers};
-ghost use Rattle.decoder.specs.Words.{applied, Added, Monic};
+ghost use Rattle.std.specs.Prelude.{◌≡◌, ℕ, ◌+◌, ◌-◌, ◌*◌, ◌<◌, ◌≤◌, length, ◌≢◌, slice_index_or, MatchBool, MatchOption};
+ghost use Rattle.decoder.specs.Elimination.{row_at, applied_to, Candidate, Stage, Powers};
+ghost use Rattle.decoder.specs.Words.{Added, Monic};
 
+use crate::window::Window;
 use field::Field;
+use std::array;
 
 // A polynomial of degree below sixteen, the lowest coefficient first.
 #[derive(Clone, Copy)]
 pub struct Row<F> {
     pub degree: usize,
     pub coefficients: [F; 16],
-}
-
-// The n syndromes from the place k on, to which rows of n coefficients are applied.
-#[derive(Drop)]
-struct Window<'a, F> {
-    s: &'a [F],
-    k: usize,
-    n: usize,
-    ghost fits: { (n ≤ 16) × (k + n ≤ length s.now) },
 }
 
 impl<F: Field + Copy> Row<F> {
@@ -38,7 +31,7 @@ impl<F: Field + Copy> Row<F> {
 
     // The sum of the window's syndromes, each times its coefficient.
     fn apply(&self, window: &Window<'_, F>) -> F
-        ensures { result ≡ applied F.Adds.group F.Field.ring self.now.coefficients window.now.s.now window.now.k window.now.n }
+        ensures { result ≡ applied_to F.Adds.group F.Field.ring self.now.coefficients window.now }
     {
         let mut sum = F::zero();
         for (a, y) in self.coefficients[..window.n]
@@ -56,8 +49,8 @@ impl<F: Field + Copy> Row<F> {
         requires row { Candidate F.Adds.group F.Field.ring window.now.s.now window.now.n window.now.k self.now }
         requires pivot { Candidate F.Adds.group F.Field.ring window.now.s.now window.now.n window.now.k pivot.now }
         requires lower { pivot.now.degree < self.now.degree }
-        requires remains { applied F.Adds.group F.Field.ring pivot.now.coefficients window.now.s.now window.now.k window.now.n ≢ F.Adds.group.zero }
-        requires inverse { over ≡ F.Field.ring.over (applied F.Adds.group F.Field.ring pivot.now.coefficients window.now.s.now window.now.k window.now.n) }
+        requires remains { applied_to F.Adds.group F.Field.ring pivot.now.coefficients window.now ≢ F.Adds.group.zero }
+        requires inverse { over ≡ F.Field.ring.over (applied_to F.Adds.group F.Field.ring pivot.now.coefficients window.now) }
         ensures degree { result.degree ≡ self.now.degree }
         ensures candidate { Candidate F.Adds.group F.Field.ring window.now.s.now window.now.n (window.now.k + 1) result }
     {
@@ -75,23 +68,23 @@ impl<F: Field + Copy> Row<F> {
 fn add_times<F: Field + Copy>(v: [F; 16], p: &[F; 16], q: F) -> [F; 16]
     ensures { Added F.Adds.group F.Field.ring v p.now q result 16 }
 {
-    let mut w = v;
-    // By index: of a closure that captures, `array::from_fn` says too little, and a zip over `w.iter_mut()` nothing.
-    for (j, y) in w.iter_mut().enumerate() {
-        *y = y.add(q.mul(p[j]));
-    }
-    w
+    array::from_fn(
+        |j| -> F
+            requires { j < 16 }
+            ensures { result ≡ F.Adds.group.plus (slice_index_or v j F.Adds.group.zero) (F.Field.ring.times q (slice_index_or p.entry.now j F.Adds.group.zero)) }
+        { v[j].add(q.mul(p[j])) },
+    )
 }
 
 // The first of the rows that does not annihilate the window.
 fn first_open<F: Field + Copy>(rows: &[Row<F>], window: &Window<'_, F>) -> Option<usize>
-    ensures { MatchOption result ((i : ℕ) → i < length rows.now → applied F.Adds.group F.Field.ring (row_at rows.now i).coefficients window.now.s.now window.now.k window.now.n ≡ F.Adds.group.zero)
-        (λ p. (p < length rows.now) × (applied F.Adds.group F.Field.ring (row_at rows.now p).coefficients window.now.s.now window.now.k window.now.n ≢ F.Adds.group.zero)
-        × ((i : ℕ) → i < p → applied F.Adds.group F.Field.ring (row_at rows.now i).coefficients window.now.s.now window.now.k window.now.n ≡ F.Adds.group.zero)) }
+    ensures { MatchOption result ((i : ℕ) → i < length rows.now → applied_to F.Adds.group F.Field.ring (row_at rows.now i).coefficients window.now ≡ F.Adds.group.zero)
+        (λ p. (p < length rows.now) × (applied_to F.Adds.group F.Field.ring (row_at rows.now p).coefficients window.now ≢ F.Adds.group.zero)
+        × ((i : ℕ) → i < p → applied_to F.Adds.group F.Field.ring (row_at rows.now i).coefficients window.now ≡ F.Adds.group.zero)) }
 {
     rows.iter().position(
         |row| -> bool
-            ensures { MatchBool result (applied F.Adds.group F.Field.ring row.now.coefficients window.entry.now.s.now window.entry.now.k window.entry.now.n ≢ F.Adds.group.zero) (applied F.Adds.group F.Field.ring row.now.coefficients window.entry.now.s.now window.entry.now.k window.entry.now.n ≡ F.Adds.group.zero) }
+            ensures { MatchBool result (applied_to F.Adds.group F.Field.ring row.now.coefficients window.entry.now ≢ F.Adds.group.zero) (applied_to F.Adds.group F.Field.ring row.now.coefficients window.entry.now ≡ F.Adds.group.zero) }
         { !row.apply(window).is_zero() },
     )
 }

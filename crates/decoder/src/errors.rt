@@ -20,7 +20,7 @@ fn error_at<F: Field + Copy>(t: &mut [F], points: &[F], j: usize) -> F
     ensures { result ≡ error_value F.Adds.group F.Field.ring points.now (λ k. get_or t.old k F.Adds.group.zero) (length points.now) j }
 {
     let mut gap = F::unit();
-    // The size stands beside t: with `t = &mut t[..size]` in the `if`, the function has no generated proof.
+    // The size stands beside t: where t itself is narrowed within the `if`, the proof does not close.
     let mut size = points.len();
     for (l, x) in points.iter().enumerate() {
         if l != j {

@@ -1,4 +1,4 @@
-// Decodes words over any field, given a point for each place. All work stands in arrays of the caller, the room.
+// Decodes words over any field, given a point for each place. All work stands in arrays of the caller.
 #![tactic(auto)]
 
 ghost use Rattle.std.specs.Prelude.{◌≡◌, ◌*◌, ◌<◌, ◌≤◌, is_ok, length, slice_index_or};
@@ -12,13 +12,14 @@ mod elimination;
 mod errors;
 mod roots;
 mod syndromes;
+mod window;
 
 pub use elimination::Row;
 pub use roots::evaluate;
 pub use syndromes::is_codeword;
 
 // Room for the decoding of words of up to 544 symbols with a reach of up to 15. What it holds does not matter.
-// Fixed arrays, since there is no heap; each has a use and a length of its own, so none are records of one list.
+// Fixed arrays, since there is no heap: `values` and `found` have room for all places, `located` and `terms` for the reach.
 #[derive(Drop)]
 pub struct Work<F> {
     pub syndromes: [F; 30],
@@ -49,9 +50,9 @@ impl<F: Field + Copy> Work<F> {
     {
         syndromes::compute(word, points, &mut self.syndromes);
         // A copy, since to propose takes all of the room.
-        let s = self.syndromes;
+        let mut s = self.syndromes;
         self.propose(word, &s, points, reach, out)?;
-        if is_codeword(out, points, 2 * reach, &mut self.syndromes) {
+        if is_codeword(out, points, &mut s[..2 * reach]) {
             Ok(())
         } else {
             Err(OutOfReach)

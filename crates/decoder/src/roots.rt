@@ -7,7 +7,7 @@ use super::syndromes::clear;
 use field::Field;
 
 // Multiplies each value by its point, and adds the coefficient c.
-// Points and values stay two slices here and below, as `evaluate` takes them of its callers.
+// Points and values stay two slices here and below: the public `evaluate` takes them so, and would take a pair apart.
 fn step<F: Field + Copy>(values: &mut [F], points: &[F], c: F)
     requires { length points.now ≤ length values.old }
     ensures { Stepped F.Adds.group F.Field.ring values.old points.now c (length points.now) values.new }

@@ -71,28 +71,15 @@ fn sound(heap: Global, records: &[u8]) -> anyhow::Result<String> {
 }
 
 fn record(heap: Global, index: usize, r: Record) -> anyhow::Result<String> {
-    match r {
-        Record::Data(body) => Ok(format!(in heap;
-            "{index}d{};",
-            hex::encode(heap, body)?.as_str()
-        )?),
-        Record::Control(body) => Ok(format!(in heap;
-            "{index}c{};",
-            hex::encode(heap, body)?.as_str()
-        )?),
-        Record::BadHeader(BadHeader::Ones, body) => Ok(format!(in heap;
-            "{index}t{};",
-            hex::encode(heap, body)?.as_str()
-        )?),
-        Record::BadHeader(BadHeader::Zeros, body) => Ok(format!(in heap;
-            "{index}z{};",
-            hex::encode(heap, body)?.as_str()
-        )?),
-        Record::Note(body) => Ok(format!(in heap;
-            "{index}n{};",
-            hex::encode(heap, body)?.as_str()
-        )?),
-    }
+    let (letter, body) = match r {
+        Record::Data(body) => ('d', body),
+        Record::Control(body) => ('c', body),
+        Record::BadHeader(BadHeader::Ones, body) => ('t', body),
+        Record::BadHeader(BadHeader::Zeros, body) => ('z', body),
+        Record::Note(body) => ('n', body),
+    };
+    let body = hex::encode(heap, body)?;
+    Ok(format!(in heap; "{index}{letter}{body};")?)
 }
 
 // Every record that a reader gives, and how the walk ends.
@@ -130,21 +117,6 @@ fn passed<F: FnMut(Group) -> Group>(
     Ok(text)
 }
 
-// One function for each direction, since they make two types.
-fn scramble(heap: Global, start: u64, groups: &[u8]) -> anyhow::Result<String> {
-    match Scrambler::new(start) {
-        Ok(mut scrambler) => passed(heap, groups, |group| scrambler.scramble(group)),
-        Err(e) => refusal(heap, e),
-    }
-}
-
-fn descramble(heap: Global, start: u64, groups: &[u8]) -> anyhow::Result<String> {
-    match Descrambler::new(start) {
-        Ok(mut descrambler) => passed(heap, groups, |group| descrambler.descramble(group)),
-        Err(e) => refusal(heap, e),
-    }
-}
-
 // A start value in octets, the lowest first. The library takes eight, and a case may have another number of them.
 fn start_of(octets: &[u8]) -> u64 {
     octets
@@ -168,8 +140,14 @@ fn answer(heap: Global, what: &str, start: &[u8], input: &[u8]) -> anyhow::Resul
         ),
         "sound" => sound(heap, input),
         "walk" => walk(heap, input),
-        "scramble" => scramble(heap, start_of(start), input),
-        "descramble" => descramble(heap, start_of(start), input),
+        "scramble" => match Scrambler::new(start_of(start)) {
+            Ok(mut scrambler) => passed(heap, input, |group| scrambler.scramble(group)),
+            Err(e) => refusal(heap, e),
+        },
+        "descramble" => match Descrambler::new(start_of(start)) {
+            Ok(mut descrambler) => passed(heap, input, |group| descrambler.descramble(group)),
+            Err(e) => refusal(heap, e),
+        },
         _ => Err(anyhow!("unknown case")),
     }
 }

@@ -2,5 +2,6 @@
 #![tactic(auto)]
 
 mod groups;
+mod reply;
 mod symbols;
 mod words;

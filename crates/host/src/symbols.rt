@@ -16,6 +16,7 @@ pub fn store(symbols: &[u16], octets: &mut [u8])
     requires { length octets.old ≡ 2 * length symbols.now }
     ensures { symbols_in octets.new ≡ symbols.now }
 {
+    // By ranges: the contract of `as_chunks_mut` doesn't say what the slice ends as.
     for (i, symbol) in symbols.iter().enumerate() {
         octets[2 * i..2 * i + 2].copy_from_slice(&symbol.to_le_bytes());
     }

@@ -1,11 +1,10 @@
 // Encoding and correcting for C.
 ghost use Rattle.std.specs.Prelude.{◌≡◌, OnErr};
-ghost use Rattle.std.specs.Result.{result_map_both};
-ghost use Rattle.code.specs.Answers.{Encodes, Corrected};
+ghost use Rattle.code.specs.Answers.{Encodes, Corrected, number_of, place_of};
 ghost use Rattle.host.specs.Calls.{EncodeCall, CorrectCall};
 ghost use Rattle.host.specs.Crossing.{symbols_in};
-ghost use Rattle.host.specs.Replies.{word_number, word_place};
 
+use super::reply::reply;
 use super::symbols;
 use code::{Engine, FullEngine, Refusal, WatchEngine};
 
@@ -14,21 +13,12 @@ const MESSAGE: usize = 1028;
 
 const WORD: usize = 1088;
 
-// Writes the place of the answer, and returns its number.
-fn reply(answer: Result<(), Refusal>, place: &mut usize) -> u32
-    ensures number { result ≡ word_number answer }
-    ensures place { place.new ≡ word_place answer }
+// The number and the place of a refusal.
+fn crossed(e: Refusal) -> (u32, usize)
+    ensures number { result.0 ≡ number_of e }
+    ensures place { result.1 ≡ place_of e }
 {
-    match answer {
-        Ok(()) => {
-            *place = 0;
-            0
-        }
-        Err(e) => {
-            *place = e.place();
-            u32::from(e.number())
-        }
-    }
+    (u32::from(e.number()), e.place())
 }
 
 fn encode(message: &[u8], word: &mut [u8]) -> Result<(), Refusal>
@@ -46,17 +36,17 @@ fn encode(message: &[u8], word: &mut [u8]) -> Result<(), Refusal>
 }
 
 // Corrects the word by the engine.
-fn correct<E: Engine>(engine: &mut E, word: &mut [u8], changed: &mut usize) -> Result<(), Refusal>
-    ensures corrects { Corrected E.Engine.reach (symbols_in word.old) (symbols_in word.new) (result_map_both (λ _. changed.new) (λ e. e) result) }
-    ensures kept { OnErr result ((word.new ≡ word.old) × (changed.new ≡ changed.old)) }
+fn correct<E: Engine>(engine: &mut E, word: &mut [u8]) -> Result<usize, Refusal>
+    ensures corrects { Corrected E.Engine.reach (symbols_in word.old) (symbols_in word.new) result }
+    ensures kept { OnErr result (word.new ≡ word.old) }
 {
     if word.len() != WORD {
         return Err(Refusal::Length);
     }
     let mut received = symbols::load::<544>(word);
-    *changed = engine.correct(&mut received)?;
+    let changed = engine.correct(&mut received)?;
     symbols::store(&received, word);
-    Ok(())
+    Ok(changed)
 }
 
 // C calls each by a name of its own, and hands buffers, place and count over as pointers.
@@ -64,19 +54,21 @@ fn correct<E: Engine>(engine: &mut E, word: &mut [u8], changed: &mut usize) -> R
 pub extern "C" fn dartzulia_encode(message: &[u8], word: &mut [u8], place: &mut usize) -> u32
     ensures { EncodeCall message.now word.old word.new place.new result }
 {
-    reply(encode(message, word), place)
+    reply(encode(message, word).map_err(crossed), &mut (), place)
 }
 
 #[unsafe(no_mangle)]
 pub extern "C" fn dartzulia_correct(word: &mut [u8], changed: &mut usize, place: &mut usize) -> u32
     ensures { CorrectCall 15 word.old word.new changed.old changed.new place.new result }
 {
-    reply(correct(&mut FullEngine::new(), word, changed), place)
+    let answer = correct(&mut FullEngine::new(), word);
+    reply(answer.map_err(crossed), changed, place)
 }
 
 #[unsafe(no_mangle)]
 pub extern "C" fn dartzulia_watch(word: &mut [u8], changed: &mut usize, place: &mut usize) -> u32
     ensures { CorrectCall 0 word.old word.new changed.old changed.new place.new result }
 {
-    reply(correct(&mut WatchEngine::new(), word, changed), place)
+    let answer = correct(&mut WatchEngine::new(), word);
+    reply(answer.map_err(crossed), changed, place)
 }

@@ -11,7 +11,7 @@ pub enum Cause {
     FiveFailedMarkers,
 }
 
-// The layer of lanes. A layer above has causes of its own, and wraps these.
+// The layer of lanes. A layer above has causes of its own.
 const LAYER: u8 = 1;
 
 impl Cause {

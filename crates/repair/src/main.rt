@@ -18,15 +18,15 @@ impl Sequence {
     }
 }
 
-// Changes `count` symbols, 17 places apart from the first, each to another one.
+// Takes `count` steps of 17 places from the first on, round the word, and changes the symbol at each to another one.
 fn damage(
     rt: &HostRuntime,
     word: &mut [u16; 544],
     count: usize,
     mut sequence: Sequence,
 ) -> anyhow::Result<()> {
-    for i in 0..count {
-        let at = i.wrapping_mul(17) % 544;
+    for place in (0usize..).step_by(17).take(count) {
+        let at = place % 544;
         let old = word[at];
         word[at] ^= 1 + sequence.symbol() % 1023;
         println!(rt; "symbol {at}: {old} became {}", word[at])?;

@@ -1,12 +1,17 @@
 -- The codewords of a message.
-use Rattle.std.proofs.Common.{◌≡◌, ℕ, ◌+◌, ◌*◌, ◌<◌, List, length, sym, ap, ◌∙◌, arith}
-use Rattle.std.proofs.lemmas.List.{get_or-take}
-use Rattle.blocks.specs.Bits.{table, nth}
-use Rattle.blocks.proofs.Scrambles.{length-table, nth-table}
+use Rattle.std.proofs.Common.{◌≡◌, ℕ, ◌+◌, ◌*◌, ◌/◌, ◌<◌, zero, suc, List, [], ◌∷◌, length, get_or, drop, sym, refl, ap, ◌∙◌, subst, inl, inr, arith}
+use Rattle.std.proofs.lemmas.List.{get_or-take, get_or_past}
+use Rattle.std.proofs.lemmas.Bool.{cases_lt}
+use Rattle.std.specs.Simd.{first_chunks}
+use Rattle.blocks.specs.Bits.{number, table, nth}
+use Rattle.blocks.proofs.Scrambles.{length-table, nth-table, table_same}
+use Rattle.blocks.proofs.Arrays.{chunk_at}
+use Rattle.blocks.proofs.Shapes.{binary_none, binary_take, binary_drop}
+use Rattle.lanes.specs.Markers.{symbol_in}
 use Rattle.code.specs.Code.{codeword_of}
 use Rattle.code.proofs.Named.{message_begins, length_codeword, codeword_small}
 use Rattle.sender.specs.Messages.{Bits, word_symbol, word}
-use Rattle.sender.specs.Packing.{Small}
+use Rattle.sender.specs.Packing.{Small, AllBits, AllSmall, every_second}
 use Rattle.sender.proofs.Symbols.{table_below, symbol_in-small}
 
 -- the symbols of a message stand first in its codewords
@@ -26,3 +31,26 @@ symbols_small bits w b = table_below 514 1024 (word_symbol bits w) (omega arith)
 pub word_small : (bits : List ℕ) (w : ℕ) → Bits bits → Small (word bits w)
 unfolding word
 word_small bits w b = codeword_small (table 514 (word_symbol bits w)) (symbols_small bits w b)
+
+pub two_small : (x y : List ℕ) → Small x → Small y → AllSmall (x ∷ (y ∷ []))
+two_small x y hx hy zero = hx
+two_small x y hx hy (suc zero) = hy
+two_small x y hx hy (suc (suc w)) = λ i. omega arith
+
+-- bits in tens
+length_tens : (n : ℕ) (bits : List ℕ) → length (first_chunks 10 n bits) ≡ n
+length_tens zero bits = refl
+length_tens (suc n) bits = ap suc (length_tens n (drop 10 bits))
+
+module _ (bits : List ℕ) (tens : List (List ℕ)) where
+  pub tens_binary : (n : ℕ) → Bits bits → tens ≡ first_chunks 10 n bits → AllBits tens
+  tens_binary n b e k = elim (cases_lt k n) [
+    | inl h ↦ subst (λ (ts : List (List ℕ)). Bits (get_or ts k [])) (sym e) (subst Bits (sym (chunk_at 10 n bits k h)) (binary_take 10 (drop (10 * k) bits) (binary_drop (10 * k) bits b)))
+    | inr h ↦ subst (λ (ts : List (List ℕ)). Bits (get_or ts k [])) (sym e) (subst Bits (sym (get_or_past (first_chunks 10 n bits) k [] (rw (length_tens n bits) h))) binary_none)
+  ]
+
+  pub tens_symbols : (first : ℕ) → length bits ≡ 10280 → tens ≡ first_chunks 10 (length bits / 10) bits → first < 2 → table 514 (every_second tens first) ≡ table 514 (word_symbol bits first)
+  unfolding symbol_in
+  tens_symbols first n e f =
+      table_same 514 (every_second tens first) (word_symbol bits first) (λ x h.
+      ap (λ (ts : List (List ℕ)). number (get_or ts (2 * x + first) [])) e ∙ ap number (chunk_at 10 (length bits / 10) bits (2 * x + first) (omega arith)))

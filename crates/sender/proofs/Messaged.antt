@@ -1,7 +1,7 @@
 -- Bits put one after another, and symbols out of them.
 use Rattle.std.proofs.Common.{◌≡◌, ℕ, zero, suc, ◌+◌, ◌-◌, ◌*◌, ◌<◌, ◌≤◌, List, [], ◌∷◌, ◌++◌, length, get_or, take, drop, sym, refl, ap, ◌∙◌, subst, ap₂, append_assoc, append-nil, arith, length-append, length-drop}
 use borrow.Rule.Slice.PartMut.{put_mid, mid_of}
-use Rattle.std.proofs.lemmas.List.{ext_get_or, drop_more, take_at, length-take-le}
+use Rattle.std.proofs.lemmas.List.{ext_get_or, drop_more, take_all, take_at, length-take-le}
 use Rattle.std.specs.Array.{IsFromFnResultFrom, IsFromFnResult}
 use Rattle.std.specs.Fn.{Called, Mut}
 use Rattle.blocks.specs.Bits.{field, number, table}
@@ -9,7 +9,6 @@ use Rattle.blocks.specs.Groups.{words}
 use Rattle.blocks.proofs.Bytes.{put_at}
 use Rattle.blocks.proofs.Fields.{length-field}
 use Rattle.blocks.proofs.Scrambles.{length-table, nth-table}
-use Rattle.lanes.specs.Markers.{symbol_in}
 
 -- a part put behind n others
 pub part_put : (n m : ℕ) (bits part : List ℕ) → n + m ≤ length bits → length part ≡ m → take (n + m) (put_mid n (n + m - n) bits part) ≡ take n bits ++ part
@@ -44,21 +43,12 @@ number_front (suc n) at xs h =
     let l : at < length xs = omega arith in
     ap (λ (ys : List ℕ). number (take (suc n) ys)) (drop_more xs at 0 l) ∙ ap (λ (m : ℕ). get_or xs at 0 + 2 * m) (number_front n (at + 1) xs (omega arith))
 
-pub ten_bits : (xs : List ℕ) (i at : ℕ) → at ≡ 10 * i → at + 10 ≤ length xs → (low high : ℕ) →
-    low ≡ get_or xs at 0 + 2 * get_or xs (at + 1) 0 + 4 * get_or xs (at + 2) 0 + 8 * get_or xs (at + 3) 0 + 16 * get_or xs (at + 4) 0 →
-    high ≡ get_or xs (at + 5) 0 + 2 * get_or xs (at + 6) 0 + 4 * get_or xs (at + 7) 0 + 8 * get_or xs (at + 8) 0 + 16 * get_or xs (at + 9) 0 →
-    low + 32 * high ≡ symbol_in xs i
-unfolding symbol_in weighed
-ten_bits xs i at e h low high el eh =
-    let e2 : get_or xs (at + 1 + 1) 0 ≡ get_or xs (at + 2) 0 = ap (λ (j : ℕ). get_or xs j 0) (omega arith) in
-    let e3 : get_or xs (at + 1 + 1 + 1) 0 ≡ get_or xs (at + 3) 0 = ap (λ (j : ℕ). get_or xs j 0) (omega arith) in
-    let e4 : get_or xs (at + 1 + 1 + 1 + 1) 0 ≡ get_or xs (at + 4) 0 = ap (λ (j : ℕ). get_or xs j 0) (omega arith) in
-    let e5 : get_or xs (at + 1 + 1 + 1 + 1 + 1) 0 ≡ get_or xs (at + 5) 0 = ap (λ (j : ℕ). get_or xs j 0) (omega arith) in
-    let e6 : get_or xs (at + 1 + 1 + 1 + 1 + 1 + 1) 0 ≡ get_or xs (at + 6) 0 = ap (λ (j : ℕ). get_or xs j 0) (omega arith) in
-    let e7 : get_or xs (at + 1 + 1 + 1 + 1 + 1 + 1 + 1) 0 ≡ get_or xs (at + 7) 0 = ap (λ (j : ℕ). get_or xs j 0) (omega arith) in
-    let e8 : get_or xs (at + 1 + 1 + 1 + 1 + 1 + 1 + 1 + 1) 0 ≡ get_or xs (at + 8) 0 = ap (λ (j : ℕ). get_or xs j 0) (omega arith) in
-    let e9 : get_or xs (at + 1 + 1 + 1 + 1 + 1 + 1 + 1 + 1 + 1) 0 ≡ get_or xs (at + 9) 0 = ap (λ (j : ℕ). get_or xs j 0) (omega arith) in
-    omega arith ∙ sym (number_front 10 at xs h) ∙ ap (λ (j : ℕ). number (take 10 (drop j xs))) e
+pub ten_bits : (xs : List ℕ) → length xs ≡ 10 → (low high : ℕ) →
+    low ≡ get_or xs 0 0 + 2 * get_or xs 1 0 + 4 * get_or xs 2 0 + 8 * get_or xs 3 0 + 16 * get_or xs 4 0 →
+    high ≡ get_or xs 5 0 + 2 * get_or xs 6 0 + 4 * get_or xs 7 0 + 8 * get_or xs 8 0 + 16 * get_or xs 9 0 →
+    low + 32 * high ≡ number xs
+unfolding weighed
+ten_bits xs h low high el eh = omega arith ∙ sym (number_front 10 0 xs (omega arith)) ∙ ap number (take_all 10 xs (omega arith))
 
 -- a list by its places
 pub symbols_all : (xs : List ℕ) (f : ℕ → ℕ) (n : ℕ) → length xs ≡ n → ((k : ℕ) → k < n → get_or xs k 0 ≡ f k) → xs ≡ table n f

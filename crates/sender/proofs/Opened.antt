@@ -1,5 +1,5 @@
 -- The parts of a marker block, put one after another.
-use Rattle.std.proofs.Common.{◌≡◌, ℕ, zero, suc, ◌+◌, ◌*◌, ◌<◌, List, [], ◌∷◌, ◌++◌, length, sym, ap, ◌∙◌, ap₂, inl, inr, append_assoc, add-one, arith, length-append}
+use Rattle.std.proofs.Common.{◌≡◌, ℕ, zero, suc, ◌+◌, ◌*◌, ◌/◌, ◌%◌, ◌<◌, ◌≤◌, List, [], ◌∷◌, ◌++◌, length, sym, ap, ◌∙◌, ap₂, inl, inr, append_assoc, add-one, arith, length-append}
 use lib.Bits.{bit_xor}
 use Rattle.blocks.specs.Bits.{field, table, nth}
 use Rattle.blocks.proofs.Scrambles.{table_same, table-append, nth-table}
@@ -14,6 +14,20 @@ unfolding symbol_bits
 symbol_put f m x entry bits new e inv h =
     h ∙ ap₂ (λ (bs : List ℕ) (y : ℕ). bs ++ field y 0 10) inv e ∙ append_assoc entry (symbol_bits m f) (field (f m) 0 10)
     ∙ ap (λ (k : ℕ). entry ++ symbol_bits k f) (sym (add-one m))
+
+-- the row and the lane of a marker block's symbol
+pub row_of : (lanes row lane : ℕ) → Lanes lanes → lane < lanes → (row * lanes + lane) / lanes ≡ row
+row_of lanes row lane (inl e) h = rw e (let k : lane < 8 = omega arith in omega arith)
+row_of lanes row lane (inr e) h = rw e (let k : lane < 16 = omega arith in omega arith)
+
+pub lane_of : (lanes row lane : ℕ) → Lanes lanes → lane < lanes → (row * lanes + lane) % lanes ≡ lane
+lane_of lanes row lane (inl e) h = rw e (let k : lane < 8 = omega arith in omega arith)
+lane_of lanes row lane (inr e) h = rw e (let k : lane < 16 = omega arith in omega arith)
+
+-- twelve rows have room for it
+pub room_left : (lanes row lane : ℕ) → Lanes lanes → row < 12 → lane < lanes → 10 * (row * lanes + lane) + 10 ≤ 120 * lanes
+room_left lanes row lane (inl e) r h = rw e (let k : lane < 8 = omega arith in omega arith)
+room_left lanes row lane (inr e) r h = rw e (let k : lane < 16 = omega arith in omega arith)
 
 one_more : (n : ℕ) (f : ℕ → ℕ) → table n f ++ (f n ∷ []) ≡ table (n + 1) f
 unfolding table

@@ -1,5 +1,5 @@
 -- A pair's message of 10,280 bits, and its two codewords. Assumes nothing.
-use Rattle.std.specs.Prelude.{ℕ, zero, suc, ◌+◌, ◌-◌, ◌*◌, ◌/◌, ◌%◌, ◌<◌, Bool, cond, List, [], ◌++◌, take, drop, ◌==◌}
+use Rattle.std.specs.Prelude.{ℕ, zero, suc, ◌+◌, ◌-◌, ◌*◌, ◌/◌, ◌%◌, ◌<◌, ◌≤◌, Bool, cond, List, [], ◌++◌, length, take, drop, ◌==◌}
 use Rattle.blocks.specs.Bits.{field, table, nth}
 use Rattle.blocks.specs.Groups.{group_bits}
 use Rattle.blocks.specs.declared.block.Block.{Block}
@@ -9,6 +9,10 @@ use Rattle.lanes.specs.Markers.{symbol_in, marker_bits}
 -- a list of 0 and 1
 abbrev pub Bits : List ℕ → Type 0
 Bits bs = (i : ℕ) → nth bs i < 2
+
+-- a message has room for n bits more
+abbrev pub HasRoom : List ℕ → ℕ → Type 0
+HasRoom bits n = length bits + n ≤ 10280
 
 -- n symbols one after another, ten bits each, the lowest first
 unfoldable pub symbol_bits : ℕ → (ℕ → ℕ) → List ℕ

@@ -1,6 +1,7 @@
 -- Four symbols in five octets: what private functions of the strips compute. Assumes nothing.
-use Rattle.std.specs.Prelude.{◌≡◌, ℕ, ◌+◌, ◌*◌, ◌<◌, ◌⊎◌, List, ◌++◌}
-use Rattle.blocks.specs.Bits.{field, table, nth}
+use Rattle.std.specs.Prelude.{◌≡◌, ℕ, ◌+◌, ◌*◌, ◌<◌, ◌⊎◌, List, [], ◌++◌, slice_index_or}
+use Rattle.blocks.specs.Bits.{field, number, table, nth}
+use Rattle.sender.specs.Messages.{Bits}
 use Rattle.sender.specs.Strips.{pair_bit}
 
 abbrev pub four_symbols : ℕ → ℕ → ℕ → ℕ → List ℕ
@@ -13,6 +14,20 @@ quad_bits lanes a b l q = table 40 (λ i. pair_bit lanes a b l (40 * q + i))
 -- every symbol has ten bits
 abbrev pub Small : List ℕ → Type 0
 Small a = (i : ℕ) → nth a i < 1024
+
+-- one of two words: A is 0, B is 1
+abbrev pub word_of : List (List ℕ) → ℕ → List ℕ
+word_of words w = slice_index_or words w []
+
+abbrev pub AllSmall : List (List ℕ) → Type 0
+AllSmall words = (w : ℕ) → Small (word_of words w)
+
+-- tens of bits, and every second of the symbols that they are, from number `first` on
+abbrev pub AllBits : List (List ℕ) → Type 0
+AllBits tens = (k : ℕ) → Bits (slice_index_or tens k [])
+
+abbrev pub every_second : List (List ℕ) → ℕ → ℕ → ℕ
+every_second tens first x = number (slice_index_or tens (2 * x + first) [])
 
 abbrev pub Lanes : ℕ → Type 0
 Lanes lanes = (lanes ≡ 8) ⊎ (lanes ≡ 16)

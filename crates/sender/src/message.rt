@@ -1,10 +1,9 @@
 // The 10,280 bits of a pair's message, and the symbols of its two words.
-ghost use Rattle.std.specs.Prelude.{◌≡◌, ℕ, ◌+◌, ◌*◌, ◌<◌, ◌≤◌, List, [], ◌∷◌, ◌++◌, length, take};
-ghost use Rattle.blocks.specs.Bits.{field, table};
+ghost use Rattle.std.specs.Prelude.{◌≡◌, ℕ, ◌<◌, ◌≤◌, List, [], ◌∷◌, ◌++◌, length, take};
+ghost use Rattle.blocks.specs.Bits.{field, number, table};
 ghost use Rattle.blocks.specs.Groups.{bits_of};
-ghost use Rattle.lanes.specs.Markers.{symbol_in};
-ghost use Rattle.sender.specs.Messages.{Bits, word_symbol};
-ghost use Rattle.sender.specs.Packing.{Small};
+ghost use Rattle.sender.specs.Messages.{Bits, HasRoom, word_symbol};
+ghost use Rattle.sender.specs.Packing.{AllBits, AllSmall, every_second, word_of};
 
 use blocks::Group;
 use std::array::from_fn;
@@ -41,27 +40,23 @@ fn put_bits(bits: &mut [u8], x: u64)
     }
 }
 
-// Symbol i of the bits: ten bits, the first lowest. By its number, as the words take every second symbol.
-fn symbol_at(bits: &[u8], i: usize) -> u16
-    requires { (Bits bits.now) × (10 * i + 10 ≤ length bits.now) }
-    ensures { result ≡ symbol_in bits.now i }
+// The symbol of ten bits, the first lowest.
+fn symbol(bits: &[u8; 10]) -> u16
+    requires { Bits bits.now }
+    ensures { result ≡ number bits.now }
 {
-    let at = 10 * i;
-    let low = bits[at] + 2 * bits[at + 1] + 4 * bits[at + 2] + 8 * bits[at + 3] + 16 * bits[at + 4];
-    let high = bits[at + 5]
-        + 2 * bits[at + 6]
-        + 4 * bits[at + 7]
-        + 8 * bits[at + 8]
-        + 16 * bits[at + 9];
+    let [a, b, c, d, e, f, g, h, i, j] = *bits;
+    let low = a + 2 * b + 4 * c + 8 * d + 16 * e;
+    let high = f + 2 * g + 4 * h + 8 * i + 16 * j;
     u16::from(low) + 32 * u16::from(high)
 }
 
-// The symbols of word A, 0, or of word B, 1: even symbols go to A, odd ones to B.
-fn symbols(bits: &[u8], word: usize) -> [u16; 514]
-    requires { (Bits bits.now) × ((length bits.now ≡ 10280) × (word < 2)) }
-    ensures { result ≡ table 514 (word_symbol bits.now word) }
+// Every second symbol, from number `first` on.
+fn symbols(tens: &[[u8; 10]], first: usize) -> [u16; 514]
+    requires { (AllBits tens.now) × ((length tens.now ≡ 1028) × (first < 2)) }
+    ensures { result ≡ table 514 (every_second tens.now first) }
 {
-    from_fn(|x| symbol_at(bits, 2 * x + word))
+    from_fn(|x| symbol(&tens[2 * x + first]))
 }
 
 impl Message {
@@ -75,7 +70,7 @@ impl Message {
     }
 
     pub(crate) fn push(&mut self, bit: u8)
-        requires { (length self.old < 10280) × (bit < 2) }
+        requires { (HasRoom self.old 1) × (bit < 2) }
         ensures { self.new ≡ self.old ++ bit ∷ [] }
     {
         self.bits[self.len] = bit;
@@ -84,7 +79,7 @@ impl Message {
 
     // Puts the lowest n bits of x behind those that are in.
     pub(crate) fn push_bits(&mut self, x: u64, n: usize)
-        requires { (length self.old + n ≤ 10280) × (n ≤ 64) }
+        requires { (HasRoom self.old n) × (n ≤ 64) }
         ensures { self.new ≡ self.old ++ field x 0 n }
     {
         put_bits(&mut self.bits[self.len..self.len + n], x);
@@ -92,7 +87,7 @@ impl Message {
     }
 
     pub(crate) fn push_group(&mut self, group: Group)
-        requires { length self.old + 257 ≤ 10280 }
+        requires { HasRoom self.old 257 }
         ensures { self.new ≡ self.old ++ bits_of group }
     {
         let Group { first, parts } = group;
@@ -102,12 +97,13 @@ impl Message {
         }
     }
 
-    // The message of word A, 0, or of word B, 1.
-    pub(crate) fn word(&self, word: usize) -> [u16; 514]
-        requires { (length self.now ≡ 10280) × (word < 2) }
-        ensures symbols { result ≡ table 514 (word_symbol self.now word) }
-        ensures small { Small result }
+    // The messages of word A and of word B: even symbols go to A, odd ones to B.
+    pub(crate) fn words(&self) -> [[u16; 514]; 2]
+        requires { length self.now ≡ 10280 }
+        ensures symbols { (w : ℕ) → w < 2 → word_of result w ≡ table 514 (word_symbol self.now w) }
+        ensures small { AllSmall result }
     {
-        symbols(&self.bits[..self.len], word)
+        let (tens, _) = self.bits[..self.len].as_chunks::<10>();
+        [symbols(tens, 0), symbols(tens, 1)]
     }
 }

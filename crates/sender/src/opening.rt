@@ -1,8 +1,8 @@
 // The marker block that opens a marker period.
-ghost use Rattle.std.specs.Prelude.{◌≡◌, ℕ, ◌+◌, ◌*◌, ◌<◌, ◌≤◌, ◌++◌, length};
+ghost use Rattle.std.specs.Prelude.{◌≡◌, ℕ, ◌*◌, ◌<◌, ◌++◌};
 ghost use Rattle.blocks.specs.Bits.{table, nth};
 ghost use Rattle.lanes.specs.Pads.{pad_before, pad_bit, pad_memory};
-ghost use Rattle.sender.specs.Messages.{exchanged, symbol_bits, marker_block_symbol, marker_block, block_size, pad_size};
+ghost use Rattle.sender.specs.Messages.{HasRoom, exchanged, symbol_bits, marker_block_symbol, marker_block, block_size, pad_size};
 
 use crate::message::Message;
 use lanes::{Pad, Rate, marker_symbol};
@@ -30,21 +30,20 @@ fn exchanged(row: usize, lane: usize) -> usize
 
 // Puts the marker symbols of all rows.
 fn put_markers<R: Rate>(message: &mut Message)
-    requires { length message.old + 120 * R.LANES ≤ 10280 }
+    requires { HasRoom message.old (120 * R.LANES) }
     ensures { message.new ≡ message.old ++ symbol_bits (12 * R.LANES) (marker_block_symbol R.LANES R.octet) }
 {
-    let lanes = R::LANES;
-    // By the symbol's number in the block, as its definition counts: a loop over lanes in one over rows is no plainer.
-    for m in 0..ROWS * lanes {
-        let row = m / lanes;
-        let symbol = marker_symbol::<R>(exchanged(row, m % lanes), row);
-        message.push_bits(u64::from(symbol), SYMBOL_BITS);
+    for row in 0..ROWS {
+        for lane in 0..R::LANES {
+            let symbol = marker_symbol::<R>(exchanged(row, lane), row);
+            message.push_bits(u64::from(symbol), SYMBOL_BITS);
+        }
     }
 }
 
 // Puts n pad bits.
 fn put_pad(pad: &mut Pad, message: &mut Message, n: usize)
-    requires { length message.old + n ≤ 10280 }
+    requires { HasRoom message.old n }
     ensures bits { message.new ≡ message.old ++ table n (pad_bit (nth (pad_memory pad.old))) }
     ensures memory { pad_memory pad.new ≡ table 9 (pad_before (nth (pad_memory pad.old)) n) }
 {
@@ -62,7 +61,7 @@ fn pad_size<R: Rate>() -> usize
 
 // Puts a marker block.
 pub(crate) fn put_marker_block<R: Rate>(pad: &mut Pad, status: u8, message: &mut Message)
-    requires { length message.old + block_size R.LANES ≤ 10280 }
+    requires { HasRoom message.old (block_size R.LANES) }
     ensures bits { message.new ≡ message.old ++ marker_block R.LANES R.octet (table (pad_size R.LANES) (pad_bit (nth (pad_memory pad.old)))) status }
     ensures memory { pad_memory pad.new ≡ table 9 (pad_before (nth (pad_memory pad.old)) (pad_size R.LANES)) }
 {

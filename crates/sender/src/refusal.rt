@@ -3,6 +3,7 @@ ghost use Rattle.std.specs.Prelude.{◌≡◌};
 ghost use Rattle.sender.specs.Refusals.{number_of, place_of};
 ghost use Rattle.sender.specs.declared.refusal.Refusal.TheVariants.{Blocks};
 
+use std::error::Error;
 use std::fmt;
 
 #[derive(Clone, Copy, PartialEq, Eq, Debug)]
@@ -56,3 +57,5 @@ impl fmt::Display for Refusal {
         write!(f, "{number} {place}")
     }
 }
+
+impl Error for Refusal {}

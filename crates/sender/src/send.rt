@@ -7,8 +7,8 @@ ghost use Rattle.code.specs.Code.{codeword_of};
 ghost use Rattle.lanes.specs.HandCases.{HandChecked};
 ghost use Rattle.sender.specs.Laws.{Sending};
 ghost use Rattle.sender.specs.Lines.{groups_of, blocks_due, pair_message, line_after, send_refused, answered, Checked, blocks_of, sent_strip, sent_line};
-ghost use Rattle.sender.specs.Messages.{group_stream, word};
-ghost use Rattle.sender.specs.Packing.{Small};
+ghost use Rattle.sender.specs.Messages.{HasRoom, group_stream, word};
+ghost use Rattle.sender.specs.Packing.{Small, word_of};
 ghost use Rattle.sender.specs.View.{line_of, Made};
 
 use crate::message::Message;
@@ -29,7 +29,7 @@ const LAST_STATUS: u8 = 7;
 
 // Puts the scrambled groups of the records.
 fn put_groups(scrambler: &mut Scrambler, records: &[u8], message: &mut Message)
-    requires room { length message.old + 257 * (length records.now / 36) ≤ 10280 }
+    requires room { HasRoom message.old (257 * (length records.now / 36)) }
     requires records { bad_kind records.now ≡ None }
     ensures bits { let n = length records.now / 36 in message.new ≡ message.old ++ scrambled_bits (out_memory scrambler.old) (group_stream (blocks_of n records.now) n) }
     ensures memory { let n = length records.now / 36 in out_memory scrambler.new ≡ scrambler_after (out_memory scrambler.old) (group_stream (blocks_of n records.now) n) }
@@ -55,11 +55,11 @@ fn codeword(message: &[u16; 514]) -> [u16; 544]
 // The two codewords of a message.
 fn words(message: &Message) -> Words
     requires { length message.now ≡ 10280 }
-    ensures { (result.a ≡ word message.now 0) × (result.b ≡ word message.now 1) }
+    ensures { (word_of result.words 0 ≡ word message.now 0) × (word_of result.words 1 ≡ word message.now 1) }
 {
+    let [a, b] = message.words();
     Words {
-        a: codeword(&message.word(0)),
-        b: codeword(&message.word(1)),
+        words: [codeword(&a), codeword(&b)],
     }
 }
 
@@ -118,6 +118,7 @@ impl<R: Rate> Sender<R> {
     }
 
     // Puts the message of the next pair, and moves on to the pair behind it.
+    // Into the caller's message, so that its 10 KB are not moved out as a result.
     fn put_message(&mut self, records: &[u8], message: &mut Message)
         requires empty { message.old ≡ [] }
         requires records { (length records.now ≡ 36 * groups_of R.LANES (line_of self.old)) × (bad_kind records.now ≡ None) }

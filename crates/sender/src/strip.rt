@@ -2,7 +2,7 @@
 ghost use Rattle.std.specs.Prelude.{◌≡◌, ℕ, ◌+◌, ◌*◌, ◌/◌, ◌<◌, ◌≤◌, ◌++◌, length, drop};
 ghost use Rattle.blocks.specs.Bits.{nth, octets, field};
 ghost use Rattle.sender.specs.Strips.{lane_symbol, lane_octets, strip_octets};
-ghost use Rattle.sender.specs.Packing.{four_symbols, quad_bits, Small};
+ghost use Rattle.sender.specs.Packing.{four_symbols, quad_bits, Small, AllSmall, word_of};
 
 use lanes::Rate;
 
@@ -12,16 +12,14 @@ pub(crate) const STRIP_BYTES: usize = 1360;
 // The octets of four symbols.
 const QUAD_BYTES: usize = 5;
 
-// The two codewords of a pair.
+// The two codewords of a pair: word A, then word B.
 #[derive(Drop)]
 pub(crate) struct Words {
-    pub(crate) a: [u16; 544],
-    pub(crate) b: [u16; 544],
-    ghost small_a: { Small a },
-    ghost small_b: { Small b },
+    pub(crate) words: [[u16; 544]; 2],
+    ghost small: { AllSmall words },
 }
 
-// Five octets from four symbols.
+// Five octets from four symbols. By weights, the first symbol lowest: a fold would run from the last one back.
 fn packed(symbols: [u16; 4]) -> u64
     requires { Small symbols }
     ensures { field result 0 40 ≡ four_symbols (nth symbols 0) (nth symbols 1) (nth symbols 2) (nth symbols 3) }
@@ -35,22 +33,18 @@ impl Words {
     // The symbol of a lane in a row.
     fn symbol<R: Rate>(&self, lane: usize, row: usize) -> u16
         requires { (lane < R.LANES) × (row < 1088 / R.LANES) }
-        ensures { result ≡ lane_symbol R.LANES self.now.a self.now.b lane row }
+        ensures value { result ≡ lane_symbol R.LANES (word_of self.now.words 0) (word_of self.now.words 1) lane row }
+        ensures small { result < 1024 }
     {
-        let at = R::LANES / 2 * row + lane / 2;
-        let word = if (lane + row) % 2 == 0 {
-            &self.a
-        } else {
-            &self.b
-        };
-        word[at]
+        self.words[(lane + row) % 2][R::LANES / 2 * row + lane / 2]
     }
 
     // The forty bits of a lane in four rows.
     fn quad<R: Rate>(&self, lane: usize, q: usize) -> u64
         requires { (lane < R.LANES) × (4 * q + 3 < 1088 / R.LANES) }
-        ensures { field result 0 40 ≡ quad_bits R.LANES self.now.a self.now.b lane q }
+        ensures { field result 0 40 ≡ quad_bits R.LANES (word_of self.now.words 0) (word_of self.now.words 1) lane q }
     {
+        // By four calls: with `from_fn` the proof that each call is allowed does not close.
         packed([
             self.symbol::<R>(lane, 4 * q),
             self.symbol::<R>(lane, 4 * q + 1),
@@ -62,7 +56,7 @@ impl Words {
     // A lane's part of the strip.
     fn fill_lane<R: Rate>(&self, lane: usize, part: &mut [u8])
         requires { (lane < R.LANES) × (length part.old ≡ 1360 / R.LANES) }
-        ensures { part.new ≡ lane_octets R.LANES self.now.a self.now.b lane }
+        ensures { part.new ≡ lane_octets R.LANES (word_of self.now.words 0) (word_of self.now.words 1) lane }
     {
         // By index: of a slice lent in chunks a proof knows only the length.
         for q in 0..part.len() / QUAD_BYTES {
@@ -76,7 +70,7 @@ impl Words {
     // Fills the first 1,360 bytes: lane 0's part, then lane 1's. The rest stays.
     pub(crate) fn fill_strip<R: Rate>(&self, strip: &mut [u8])
         requires { 1360 ≤ length strip.old }
-        ensures { strip.new ≡ strip_octets R.LANES self.now.a self.now.b R.LANES ++ drop 1360 strip.old }
+        ensures { strip.new ≡ strip_octets R.LANES (word_of self.now.words 0) (word_of self.now.words 1) R.LANES ++ drop 1360 strip.old }
     {
         let size = STRIP_BYTES / R::LANES;
         // By index: of a slice lent in chunks a proof knows only the length.

@@ -1,29 +1,53 @@
-use Rattle.std.proofs.Common.{◌≡◌, ℕ, List, ◌∷◌, length, get_or, sym, ap, ◌∙◌, rules}
+use Rattle.std.proofs.Common.{◌≡◌, ℕ, List, ◌∷◌, take, length, get_or, sym, ap, ◌∙◌, subst, arith, rules}
+use Rattle.std.proofs.lemmas.List.{take_all}
+use Rattle.std.proofs.Math.ListN.{length-set}
+use Rattle.std.proofs.lemmas.Grind.{common_steps}
+use Rattle.blocks.specs.Bits.{field}
 use Rattle.blocks.specs.Groups.{one_if, words}
 use Rattle.blocks.specs.Scrambled.{memory_in}
-use Rattle.blocks.proofs.Written.{four}
-use Rattle.blocks.proofs.Words.{five_out, five_after}
+use Rattle.blocks.proofs.Passing.{one_word}
 use Rattle.blocks.proofs.scramble.pass.Goals as goal
+
+pub loop-x-init : goal.loop-x-init
+loop-x-init g c = record {
+  passed = record { gives = c.bit-first.ensures.gives; leaves = c.bit-first.ensures.leaves };
+  size = search rules;
+  rest = λ k h. search rules;
+}
+
+pub loop-x-preserved : goal.loop-x-preserved
+loop-x-preserved g c =
+    let S = g.D.Direction.run in
+    let T = g.D.Direction.after in
+    let xs : List ℕ = c.args.group.parts in
+    let ys : List ℕ = c.loop-x.x-items in
+    let n = c.loop-x.x-index in
+    let inv = c.loop-x.invariant in
+    let m : length xs ≡ 4 = search rules in
+    let same : get_or ys n 0 ≡ get_or xs n 0 = inv.rest n (omega arith) in
+    record {
+      passed = one_word S T g.met.D.Direction.in_parts (memory_in c.args.memory.now) _ _ xs ys _ _ n c.word.result (omega arith) (omega (arith, inv.size)) inv.passed
+          (subst (λ (x : ℕ). field c.word.result 0 64 ≡ S (memory_in c.loop-x.memory) (field x 0 64)) same c.word.ensures.gives)
+          (subst (λ (x : ℕ). memory_in c.word.new.memory ≡ T (memory_in c.loop-x.memory) (field x 0 64)) same c.word.ensures.leaves);
+      size = omega (arith, length-set {A = ℕ}, inv.size);
+      rest = λ k h. grind (arith, common_steps, inv.rest k);
+    }
 
 pub returns : goal.returns
 returns g c =
     let S = g.D.Direction.run in
     let T = g.D.Direction.after in
-    let laws = g.met.D.Direction.in_parts in
-    let ps : List ℕ = c.args.group.parts in
-    let n : length ps ≡ 4 = search rules in
-    let m : List ℕ = memory_in c.args.memory.now in
-    let f = c.bit-first.ensures in
-    let x = c.word-a.ensures in
-    let y = c.word-b.ensures in
-    let z = c.word-c.ensures in
-    let w = c.word-d.ensures in
-    let group : List ℕ → List ℕ = λ l. one_if c.args.group.first ∷ words l in
+    let xs : List ℕ = c.args.group.parts in
+    let ys : List ℕ = c.loop-x.x-items in
+    let p = c.loop-x.invariant.passed in
+    let n = c.loop-x.x-index in
+    let k : length xs ≡ 4 = search rules in
+    let whole : take n xs ≡ xs = take_all n xs (omega arith) in
+    let done : take n ys ≡ ys = take_all n ys (omega arith) in
+    let m = memory_in c.args.memory.now in
+    let f = one_if c.args.group.first in
+    let g' = one_if c.bit-first.result in
     record {
-      gives = five_out S T laws.gives laws.leaves (one_if c.args.group.first) _ (get_or ps 0 0) (get_or ps 1 0) (get_or ps 2 0) (get_or ps 3 0) _ _ _ _ m _ _ _ _ _
-          f.gives f.leaves x.gives x.leaves y.gives y.leaves z.gives z.leaves w.gives w.leaves
-          ∙ ap (λ (l : List ℕ). S m (group l)) (sym (four ps 0 n));
-      leaves = five_after S T laws.gives laws.leaves (one_if c.args.group.first) _ (get_or ps 0 0) (get_or ps 1 0) (get_or ps 2 0) (get_or ps 3 0) _ _ _ _ m _ _ _ _ _
-          f.gives f.leaves x.gives x.leaves y.gives y.leaves z.gives z.leaves w.gives w.leaves
-          ∙ ap (λ (l : List ℕ). T m (group l)) (sym (four ps 0 n));
+      gives = ap (λ (l : List ℕ). g' ∷ words l) (sym done) ∙ p.gives ∙ ap (λ (l : List ℕ). S m (f ∷ words l)) whole;
+      leaves = p.leaves ∙ ap (λ (l : List ℕ). T m (f ∷ words l)) whole;
     }

@@ -2,6 +2,7 @@ use Rattle.std.proofs.Common.{◌≡◌, ℕ, ◌*◌, List, ◌++◌, length, d
 use Rattle.std.proofs.lemmas.Result.{err_from_is_err_and}
 use Rattle.sender.specs.Lines.{Line, groups_of, blocks_of, pair_message, answered}
 use Rattle.sender.specs.Messages.{word}
+use Rattle.sender.specs.Packing.{word_of}
 use Rattle.sender.specs.Strips.{strip_octets, strip_of}
 use Rattle.sender.specs.View.{line_of}
 use Rattle.sender.proofs.Lawfully.{sending}
@@ -47,8 +48,8 @@ returns g c =
     let o = c.in_ok-checked.ensures in
     let bits : List ℕ = pair_message lanes g.R.Rate.octet s (blocks_of (groups_of lanes s) records) in
     let e = c.put_message.ensures.message in
-    let a : c.words.result.a ≡ word bits 0 = c.words.ensures.0 ∙ ap (λ (m : List ℕ). word m 0) e in
-    let b : c.words.result.b ≡ word bits 1 = c.words.ensures.1 ∙ ap (λ (m : List ℕ). word m 1) e in
+    let a : word_of c.words.result.words 0 ≡ word bits 0 = c.words.ensures.0 ∙ ap (λ (m : List ℕ). word m 0) e in
+    let b : word_of c.words.result.words 1 ≡ word bits 1 = c.words.ensures.1 ∙ ap (λ (m : List ℕ). word m 1) e in
     record {
       answer = ap answered (sym o);
       strip = c.fill_strip.ensures

@@ -1,6 +1,7 @@
 use Rattle.std.proofs.Common.{◌≡◌, ℕ, ◌+◌, ◌-◌, ◌*◌, ◌/◌, List, ◌++◌, drop, sym, ap, ◌∙◌, ap₂, zero-mul, arith}
 use borrow.Rule.Slice.PartMut.{put_mid}
 use Rattle.sender.specs.Strips.{strip_octets}
+use Rattle.sender.specs.Packing.{word_of}
 use Rattle.sender.proofs.Packs.{parts_whole, strip_step}
 use Rattle.sender.proofs.strip.Words.fill_strip.Goals as goal
 
@@ -14,11 +15,11 @@ loop-lane-preserved g c =
     let strip : List ℕ = c.loop-lane.strip in
     let part : List ℕ = c.fill_lane.new.part in
     ap (λ (n : ℕ). put_mid (lane * (1360 / n)) (lane * (1360 / n) + 1360 / n - lane * (1360 / n)) strip part) c.LANES-size.ensures
-    ∙ strip_step g.R.Rate.LANES c.args.self.now.a c.args.self.now.b lane c.args.strip.now strip part c.fill_lane.ensures c.loop-lane.invariant
+    ∙ strip_step g.R.Rate.LANES (word_of c.args.self.now.words 0) (word_of c.args.self.now.words 1) lane c.args.strip.now strip part c.fill_lane.ensures c.loop-lane.invariant
 
 pub returns : goal.returns
 returns g c =
     let lanes : ℕ = g.R.Rate.LANES in
     let n : c.loop-lane.lane ≡ lanes = omega (arith, c.LANES-lane-end.ensures) in
     c.loop-lane.invariant
-    ∙ ap₂ (λ (l k : ℕ). strip_octets lanes c.args.self.now.a c.args.self.now.b l ++ drop k c.args.strip.now) n (ap (λ (l : ℕ). l * (1360 / lanes)) n ∙ parts_whole lanes g.met.R.Rate.lawful.width)
+    ∙ ap₂ (λ (l k : ℕ). strip_octets lanes (word_of c.args.self.now.words 0) (word_of c.args.self.now.words 1) l ++ drop k c.args.strip.now) n (ap (λ (l : ℕ). l * (1360 / lanes)) n ∙ parts_whole lanes g.met.R.Rate.lawful.width)

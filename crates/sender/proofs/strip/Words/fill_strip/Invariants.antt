@@ -1,6 +1,7 @@
 use Rattle.std.proofs.Common.{◌≡◌, ◌*◌, ◌/◌, ◌++◌, drop}
+use Rattle.sender.specs.Packing.{word_of}
 use Rattle.sender.specs.Strips.{strip_octets}
 use Rattle.sender.proofs.strip.Words.fill_strip.Given as goal
 
 abbrev pub invariant-loop-lane : goal.invariant-loop-lane
-invariant-loop-lane g l = l.strip ≡ strip_octets g.R.Rate.LANES l.self.a l.self.b l.lane ++ drop (l.lane * (1360 / g.R.Rate.LANES)) l.initial.strip
+invariant-loop-lane g l = l.strip ≡ strip_octets g.R.Rate.LANES (word_of l.self.words 0) (word_of l.self.words 1) l.lane ++ drop (l.lane * (1360 / g.R.Rate.LANES)) l.initial.strip

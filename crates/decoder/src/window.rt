@@ -1,0 +1,11 @@
+// A window into syndromes.
+ghost use Rattle.std.specs.Prelude.{◌+◌, ◌≤◌, length};
+
+// The n syndromes from the place k on, to which rows of n coefficients are applied.
+#[derive(Drop)]
+pub(crate) struct Window<'a, F> {
+    pub(crate) s: &'a [F],
+    pub(crate) k: usize,
+    pub(crate) n: usize,
+    ghost fits: { (n ≤ 16) × (k + n ≤ length s.now) },
+}
