@@ -13,3 +13,4 @@ mod Division
 pub mod Existing
 mod WordRemainders
 pub mod Agree
+pub mod Turns

@@ -15,8 +15,10 @@ pub struct Places {
 }
 
 impl Places {
-    // The ghost fields say what the elements are.
-    pub fn new() -> Places {
+    pub fn new() -> Places
+        ensures points { Points 544 result.points }
+        ensures roots { RootsOf 30 result.roots }
+    {
         Places {
             points: std::array::from_fn(|i| gf1024::alpha_power(SIZE - 1 - i)),
             roots: std::array::from_fn(gf1024::alpha_power),

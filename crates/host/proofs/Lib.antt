@@ -1,3 +1,2 @@
 pub mod Octets
 pub mod Crossed
-pub mod Turns

@@ -1,7 +1,7 @@
 -- Each pair of octets is a symbol.
 use Rattle.std.proofs.Common.{◌≡◌, ◌/◌, ◌<◌, ℕ, List, [], length, get_or, sym, ◌∙◌, ap, zero-add, arith, rules}
 use Rattle.host.proofs.Octets.{crossed, low_first, low_first-pair}
-use Rattle.host.proofs.Turns.{each_call}
+use Rattle.code.proofs.Turns.{each_call}
 use Rattle.host.proofs.symbols.load.Goals as goal
 
 pub returns : goal.returns
