@@ -1,6 +1,8 @@
 -- What the functions that write a group give, and the three cases of writing one.
-use Rattle.std.proofs.Common.{◌≡◌, ℕ, zero, suc, ◌+◌, ◌*◌, ◌<◌, true, false, cond, List, [], ◌∷◌, ◌++◌, map, length, get_or, Some, None, position, sym, refl, ap, ◌∙◌, ap₂, inl, inr, ltb, arith}
-use Rattle.std.specs.List.{list_all, position_or_len}
+use Rattle.std.proofs.Common.{◌≡◌, ℕ, zero, suc, ◌+◌, ◌*◌, ◌%◌, ◌^◌, ◌<◌, true, false, cond, List, [], ◌∷◌, ◌++◌, map, length, get_or, reverse, Some, None, position, sym, refl, ap, ◌∙◌, ap₂, inl, inr, ltb, arith}
+use Rattle.std.specs.List.{fold, list_all, position_or_len}
+use Rattle.std.proofs.lemmas.Grind.{or_after_shift}
+use lib.Bits.{bit_or}
 use Rattle.std.proofs.lemmas.List.{take_at, drop_at}
 use Rattle.std.proofs.lemmas.Bool.{cases_Bool, lt-ltb, le-ltb}
 use Rattle.blocks.specs.Bits.{field, number}
@@ -116,11 +118,29 @@ second_small Control = omega arith
 second_small Data = omega arith
 second_small Ones = omega arith
 
--- flags by their weights, and their bits
-pub weighed : (a b c d : ℕ) → a + 2 * b + 4 * c + 8 * d ≡ number (a ∷ b ∷ c ∷ d ∷ [])
-unfolding number
-weighed a b c d = omega arith
+-- a flag below those of x
+abbrev pub pushed : ℕ → Header → ℕ
+pushed x h = bit_or (x * 2 % 2 ^ 64) (second_bit h)
 
+pushed_adds : (x : ℕ) (h : Header) → x < 2 ^ 63 → pushed x h ≡ second_bit h + 2 * x
+pushed_adds x h l = or_after_shift x 2 (2 ^ 64) (second_bit h) refl (second_small h) (omega arith) ∙ omega arith
+
+-- four of them, pushed in from the last one on
+pub shifted_in : (hs : List Header) → length hs ≡ 4 → fold pushed 0 (reverse hs) ≡ number (map second_bit hs)
+unfolding number
+shifted_in hs n = rw (four hs Zeros n) (go (get_or hs 0 Zeros) (get_or hs 1 Zeros) (get_or hs 2 Zeros) (get_or hs 3 Zeros))
+  where
+    go : (a b c d : Header) → pushed (pushed (pushed (pushed 0 d) c) b) a ≡ second_bit a + 2 * (second_bit b + 2 * (second_bit c + 2 * (second_bit d + 2 * 0)))
+    go a b c d =
+        let i = second_small b in
+        let j = second_small c in
+        let k = second_small d in
+        let x = pushed_adds 0 d (omega arith) in
+        let y = pushed_adds (pushed 0 d) c (omega arith) in
+        let z = pushed_adds (pushed (pushed 0 d) c) b (omega arith) in
+        pushed_adds (pushed (pushed (pushed 0 d) c) b) a (omega arith) ∙ omega arith
+
+-- and their bits
 pub flag_bits : (hs : List Header) → field (number (map second_bit hs)) 0 (length hs) ≡ map second_bit hs
 unfolding field number
 flag_bits [] = refl

@@ -1,9 +1,9 @@
 -- A stream in parts: what the laws of the two directions rest on. Assumes nothing.
-use Rattle.std.proofs.Common.{◌≡◌, ℕ, zero, suc, ◌+◌, ◌<◌, List, ◌∷◌, ◌++◌, length, sym, refl, ap, ◌∙◌, ap₂, add-zero, add-suc, suc-add, zero-add, arith, length-append}
+use Rattle.std.proofs.Common.{◌≡◌, ℕ, zero, suc, ◌+◌, ◌<◌, ◌≤◌, List, ◌∷◌, ◌++◌, length, sym, refl, ap, ◌∙◌, ap₂, add-zero, add-suc, suc-add, zero-add, arith, length-append}
 use lib.Bits.{bit_xor}
 use Rattle.std.proofs.lemmas.List.{get_or_append_left, get_or-append-add}
 use Rattle.blocks.specs.Bits.{table, nth}
-use Rattle.blocks.specs.Scrambled.{before, scrambled, received, descrambled, scrambled_bits, scrambler_after, descrambled_bits, descrambler_after, InParts}
+use Rattle.blocks.specs.Scrambled.{before, received, scrambled_bits, scrambler_after, descrambled_bits, descrambler_after, InParts}
 
 -- tables
 pub table_same : (n : ℕ) (f g : ℕ → ℕ) → ((i : ℕ) → i < n → f i ≡ g i) → table n f ≡ table n g
@@ -29,92 +29,90 @@ nth-table zero f i l = absurd (omega arith)
 nth-table (suc n) f zero l = refl
 nth-table (suc n) f (suc i) l = nth-table n (λ j. f (suc j)) i (omega arith)
 
--- what goes out depends on the last 58 bits and on the bits that came in
-pub before_same : (p q xs ys : ℕ → ℕ) (n k : ℕ) → ((j : ℕ) → j < 58 → p j ≡ q j) → ((j : ℕ) → j < n → xs j ≡ ys j) → k < 58 → before p xs n k ≡ before q ys n k
+-- A memory that runs: r tells what stands k + 1 places before bit n, and `next` what each bit puts in front.
+record Runs (r : (ℕ → ℕ) → (ℕ → ℕ) → ℕ → ℕ → ℕ) (next : (ℕ → ℕ) → ℕ → ℕ) : Type 0 where
+  starts : (past xs : ℕ → ℕ) (k : ℕ) → r past xs 0 k ≡ past k
+  puts : (past xs : ℕ → ℕ) (n : ℕ) → r past xs (suc n) 0 ≡ next (r past xs n) (xs n)
+  keeps : (past xs : ℕ → ℕ) (n k : ℕ) → r past xs (suc n) (suc k) ≡ r past xs n k
+  near : (p q : ℕ → ℕ) (x y : ℕ) → ((j : ℕ) → j < 58 → p j ≡ q j) → x ≡ y → next p x ≡ next q y
+
+-- a bit xored with those 39 and 58 before it
+abbrev mixed : (ℕ → ℕ) → ℕ → ℕ
+mixed p x = bit_xor x (bit_xor (p 38) (p 57))
+
+mixed-near : (p q : ℕ → ℕ) (x y : ℕ) → ((j : ℕ) → j < 58 → p j ≡ q j) → x ≡ y → mixed p x ≡ mixed q y
+mixed-near p q x y h e = ap₂ bit_xor e (ap₂ bit_xor (h 38 (omega arith)) (h 57 (omega arith)))
+
+module _ (r : (ℕ → ℕ) → (ℕ → ℕ) → ℕ → ℕ → ℕ) (next : (ℕ → ℕ) → ℕ → ℕ) (runs : Runs r next) where
+  -- what stands there depends on the last 58 bits and on the bits that came in
+  same : (p q xs ys : ℕ → ℕ) (n k : ℕ) → ((j : ℕ) → j < 58 → p j ≡ q j) → ((j : ℕ) → j < n → xs j ≡ ys j) → k < 58 → r p xs n k ≡ r q ys n k
+  same p q xs ys zero k h g l = rw (runs.starts p, runs.starts q) (h k l)
+  same p q xs ys (suc n) zero h g l = rw (runs.puts p, runs.puts q) (runs.near _ _ _ _ (λ j m. same p q xs ys n j h (λ i a. g i (omega arith)) m) (g n (omega arith)))
+  same p q xs ys (suc n) (suc k) h g l = rw (runs.keeps p, runs.keeps q) (same p q xs ys n k h (λ j m. g j (omega arith)) (omega arith))
+
+  joined : (past xs : ℕ → ℕ) (m n k : ℕ) → r past xs (m + n) k ≡ r (r past xs m) (λ i. xs (m + i)) n k
+  joined past xs m zero k = rw add-zero (sym (runs.starts _ _ k))
+  joined past xs m (suc n) zero = rw add-suc (runs.puts past xs (m + n) ∙ runs.near _ _ _ _ (λ j h. joined past xs m n j) refl ∙ sym (runs.puts _ _ n))
+  joined past xs m (suc n) (suc k) = rw add-suc (runs.keeps past xs (m + n) k ∙ joined past xs m n k ∙ sym (runs.keeps _ _ n k))
+
+  -- bits in two parts
+  abbrev left : List ℕ → List ℕ → List ℕ
+  left m xs = table 58 (r (nth m) (nth xs) (length xs))
+
+  earlier : (m xs ys : List ℕ) (i k : ℕ) → i ≤ length xs → k < 58 → r (nth m) (nth (xs ++ ys)) i k ≡ r (nth m) (nth xs) i k
+  earlier m xs ys i k h l = same _ _ _ _ i k (λ j a. refl) (λ j a. get_or_append_left xs ys 0 j (omega arith)) l
+
+  later : (m xs ys : List ℕ) (i k : ℕ) → k < 58 → r (nth m) (nth (xs ++ ys)) (length xs + i) k ≡ r (nth (left m xs)) (nth ys) i k
+  later m xs ys i k l =
+      joined (nth m) (nth (xs ++ ys)) (length xs) i k
+      ∙ same _ _ _ _ i k (λ j h. earlier m xs ys (length xs) j (omega arith) h ∙ sym (nth-table 58 _ j h)) (λ j h. get_or-append-add xs ys j 0) l
+
+  in_parts : InParts (λ m xs. table (length xs) (λ n. mixed (r (nth m) (nth xs) n) (nth xs n))) left
+  in_parts = record {
+    gives = λ m xs ys.
+        rw length-append (table-append (length xs) (length ys) _
+        ∙ ap₂ (λ (u v : List ℕ). u ++ v)
+        (table_same (length xs) _ _ (λ i l. mixed-near _ _ _ _ (λ j h. earlier m xs ys i j (omega arith) h) (get_or_append_left xs ys 0 i l)))
+        (table_same (length ys) _ _ (λ i l. mixed-near _ _ _ _ (λ j h. later m xs ys i j h) (get_or-append-add xs ys i 0))));
+    leaves = λ m xs ys. table_same 58 _ _ (λ k l. ap (λ (n : ℕ). r (nth m) (nth (xs ++ ys)) n k) (length-append xs ys) ∙ later m xs ys (length ys) k l);
+  }
+
+out_runs : Runs before mixed
 unfolding before
-before_same p q xs ys zero k h g l = h k l
-before_same p q xs ys (suc n) zero h g l =
-    let a = before_same p q xs ys n 38 h (λ j m. g j (omega arith)) (omega arith) in
-    let b = before_same p q xs ys n 57 h (λ j m. g j (omega arith)) (omega arith) in
-    ap₂ bit_xor (g n (omega arith)) (ap₂ bit_xor a b)
-before_same p q xs ys (suc n) (suc k) h g l = before_same p q xs ys n k h (λ j m. g j (omega arith)) (omega arith)
+out_runs = record { starts = λ p xs k. refl; puts = λ p xs n. refl; keeps = λ p xs n k. refl; near = mixed-near }
+
+received_runs : Runs received (λ p y. y)
+unfolding received
+received_runs = record { starts = λ p ys k. refl; puts = λ p ys n. refl; keeps = λ p ys n k. refl; near = λ p q x y h e. e }
+
+pub before_same : (p q xs ys : ℕ → ℕ) (n k : ℕ) → ((j : ℕ) → j < 58 → p j ≡ q j) → ((j : ℕ) → j < n → xs j ≡ ys j) → k < 58 → before p xs n k ≡ before q ys n k
+before_same = same before mixed out_runs
 
 pub received-same : (p q xs ys : ℕ → ℕ) (n k : ℕ) → ((j : ℕ) → j < 58 → p j ≡ q j) → ((j : ℕ) → j < n → xs j ≡ ys j) → k < 58 → received p xs n k ≡ received q ys n k
-unfolding received
-received-same p q xs ys zero k h g l = h k l
-received-same p q xs ys (suc n) zero h g l = g n (omega arith)
-received-same p q xs ys (suc n) (suc k) h g l = received-same p q xs ys n k h (λ j m. g j (omega arith)) (omega arith)
+received-same = same received _ received_runs
 
 pub before-joined : (past xs : ℕ → ℕ) (m n k : ℕ) → before past xs (m + n) k ≡ before (before past xs m) (λ i. xs (m + i)) n k
-unfolding before
-before-joined past xs m zero k = ap (λ (j : ℕ). before past xs j k) (add-zero m)
-before-joined past xs m (suc n) zero =
-    ap (λ (j : ℕ). before past xs j 0) (add-suc m n)
-    ∙ ap₂ (λ (u v : ℕ). bit_xor (xs (m + n)) (bit_xor u v)) (before-joined past xs m n 38) (before-joined past xs m n 57)
-before-joined past xs m (suc n) (suc k) = ap (λ (j : ℕ). before past xs j (suc k)) (add-suc m n) ∙ before-joined past xs m n k
+before-joined = joined before mixed out_runs
 
 pub received-joined : (past ys : ℕ → ℕ) (m n k : ℕ) → received past ys (m + n) k ≡ received (received past ys m) (λ i. ys (m + i)) n k
-unfolding received
-received-joined past ys m zero k = ap (λ (j : ℕ). received past ys j k) (add-zero m)
-received-joined past ys m (suc n) zero = ap (λ (j : ℕ). received past ys j 0) (add-suc m n)
-received-joined past ys m (suc n) (suc k) = ap (λ (j : ℕ). received past ys j (suc k)) (add-suc m n) ∙ received-joined past ys m n k
-
--- bits in two parts
-module _ (m xs ys : List ℕ) where
-  in_front : (j : ℕ) → j < length xs → nth (xs ++ ys) j ≡ nth xs j
-  in_front j l = get_or_append_left xs ys 0 j l
-
-  pub after-append : scrambler_after m (xs ++ ys) ≡ scrambler_after (scrambler_after m xs) ys
-  unfolding scrambler_after
-  after-append = table_same 58 _ _ (λ k l.
-      ap (λ (n : ℕ). before (nth m) (nth (xs ++ ys)) n k) (length-append xs ys)
-      ∙ before-joined (nth m) (nth (xs ++ ys)) (length xs) (length ys) k
-      ∙ before_same (before (nth m) (nth (xs ++ ys)) (length xs)) (nth (table 58 (before (nth m) (nth xs) (length xs)))) (λ i. nth (xs ++ ys) (length xs + i)) (nth ys) (length ys) k
-      (λ j h. before_same (nth m) (nth m) (nth (xs ++ ys)) (nth xs) (length xs) j (λ i g. refl) in_front h ∙ sym (nth-table 58 (before (nth m) (nth xs) (length xs)) j h))
-      (λ j h. get_or-append-add xs ys j 0) l)
-
-  pub scrambled-append : scrambled_bits m (xs ++ ys) ≡ scrambled_bits m xs ++ scrambled_bits (scrambler_after m xs) ys
-  unfolding scrambled_bits scrambler_after
-  scrambled-append =
-      ap (λ (n : ℕ). table n (scrambled (nth m) (nth (xs ++ ys)))) (length-append xs ys)
-      ∙ table-append (length xs) (length ys) (scrambled (nth m) (nth (xs ++ ys)))
-      ∙ ap₂ (λ (u v : List ℕ). u ++ v)
-      (table_same (length xs) _ _ (λ i l. before_same (nth m) (nth m) (nth (xs ++ ys)) (nth xs) (suc i) 0 (λ j h. refl) (λ j h. in_front j (omega arith)) (omega arith)))
-      (table_same (length ys) _ _ (λ i l.
-      ap (λ (n : ℕ). before (nth m) (nth (xs ++ ys)) n 0) (sym (add-suc (length xs) i))
-      ∙ before-joined (nth m) (nth (xs ++ ys)) (length xs) (suc i) 0
-      ∙ before_same (before (nth m) (nth (xs ++ ys)) (length xs)) (nth (table 58 (before (nth m) (nth xs) (length xs)))) (λ j. nth (xs ++ ys) (length xs + j)) (nth ys) (suc i) 0
-      (λ j h. before_same (nth m) (nth m) (nth (xs ++ ys)) (nth xs) (length xs) j (λ a b. refl) in_front h ∙ sym (nth-table 58 (before (nth m) (nth xs) (length xs)) j h))
-      (λ j h. get_or-append-add xs ys j 0) (omega arith)))
-
-  pub received-append : descrambler_after m (xs ++ ys) ≡ descrambler_after (descrambler_after m xs) ys
-  unfolding descrambler_after
-  received-append = table_same 58 _ _ (λ k l.
-      ap (λ (n : ℕ). received (nth m) (nth (xs ++ ys)) n k) (length-append xs ys)
-      ∙ received-joined (nth m) (nth (xs ++ ys)) (length xs) (length ys) k
-      ∙ received-same (received (nth m) (nth (xs ++ ys)) (length xs)) (nth (table 58 (received (nth m) (nth xs) (length xs)))) (λ i. nth (xs ++ ys) (length xs + i)) (nth ys) (length ys) k
-      (λ j h. received-same (nth m) (nth m) (nth (xs ++ ys)) (nth xs) (length xs) j (λ i g. refl) in_front h ∙ sym (nth-table 58 (received (nth m) (nth xs) (length xs)) j h))
-      (λ j h. get_or-append-add xs ys j 0) l)
-
-  pub descrambled-append : descrambled_bits m (xs ++ ys) ≡ descrambled_bits m xs ++ descrambled_bits (descrambler_after m xs) ys
-  unfolding descrambled_bits descrambler_after
-  descrambled-append =
-      let earlier : (i : ℕ) → i < length xs → (k : ℕ) → k < 58 → received (nth m) (nth (xs ++ ys)) i k ≡ received (nth m) (nth xs) i k =
-      λ i l k h. received-same (nth m) (nth m) (nth (xs ++ ys)) (nth xs) i k (λ j g. refl) (λ j g. in_front j (omega arith)) h in
-      let later : (i : ℕ) → i < length ys → (k : ℕ) → k < 58 → received (nth m) (nth (xs ++ ys)) (length xs + i) k ≡ received (nth (table 58 (received (nth m) (nth xs) (length xs)))) (nth ys) i k =
-      λ i l k h.
-      received-joined (nth m) (nth (xs ++ ys)) (length xs) i k
-      ∙ received-same (received (nth m) (nth (xs ++ ys)) (length xs)) (nth (table 58 (received (nth m) (nth xs) (length xs)))) (λ j. nth (xs ++ ys) (length xs + j)) (nth ys) i k
-      (λ j g. received-same (nth m) (nth m) (nth (xs ++ ys)) (nth xs) (length xs) j (λ a b. refl) in_front g ∙ sym (nth-table 58 (received (nth m) (nth xs) (length xs)) j g))
-      (λ j g. get_or-append-add xs ys j 0) h in
-      ap (λ (n : ℕ). table n (descrambled (nth m) (nth (xs ++ ys)))) (length-append xs ys)
-      ∙ table-append (length xs) (length ys) (descrambled (nth m) (nth (xs ++ ys)))
-      ∙ ap₂ (λ (u v : List ℕ). u ++ v)
-      (table_same (length xs) _ _ (λ i l. ap₂ bit_xor (in_front i l) (ap₂ bit_xor (earlier i l 38 (omega arith)) (earlier i l 57 (omega arith)))))
-      (table_same (length ys) _ _ (λ i l. ap₂ bit_xor (get_or-append-add xs ys i 0) (ap₂ bit_xor (later i l 38 (omega arith)) (later i l 57 (omega arith)))))
+received-joined = joined received _ received_runs
 
 pub scrambled_in_parts : InParts scrambled_bits scrambler_after
-scrambled_in_parts = record { gives = scrambled-append; leaves = after-append }
+unfolding before scrambled_bits scrambler_after
+scrambled_in_parts = in_parts before mixed out_runs
 
 pub descrambled_in_parts : InParts descrambled_bits descrambler_after
-descrambled_in_parts = record { gives = descrambled-append; leaves = received-append }
+unfolding descrambled_bits descrambler_after
+descrambled_in_parts = in_parts received _ received_runs
+
+pub after-append : (m xs ys : List ℕ) → scrambler_after m (xs ++ ys) ≡ scrambler_after (scrambler_after m xs) ys
+after-append = scrambled_in_parts.leaves
+
+pub scrambled-append : (m xs ys : List ℕ) → scrambled_bits m (xs ++ ys) ≡ scrambled_bits m xs ++ scrambled_bits (scrambler_after m xs) ys
+scrambled-append = scrambled_in_parts.gives
+
+pub received-append : (m xs ys : List ℕ) → descrambler_after m (xs ++ ys) ≡ descrambler_after (descrambler_after m xs) ys
+received-append = descrambled_in_parts.leaves
+
+pub descrambled-append : (m xs ys : List ℕ) → descrambled_bits m (xs ++ ys) ≡ descrambled_bits m xs ++ descrambled_bits (descrambler_after m xs) ys
+descrambled-append = descrambled_in_parts.gives

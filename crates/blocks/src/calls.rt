@@ -18,6 +18,7 @@ fn block(records: &[[u8; 9]], index: usize) -> Result<Block, Refusal>
 }
 
 // The four blocks of 36 bytes.
+#[tactic(auto, using(crate::proofs::Buffers::wrong_count, crate::proofs::Buffers::four_taken))]
 fn four_blocks(records: &[u8]) -> Result<[Block; 4], Refusal>
     ensures { result ≡ answered (blocks_in 4 records.now) (four_refused records.now) }
 {

@@ -55,9 +55,7 @@ fn flag(h: Header) -> u64
 fn flags(headers: [Header; 4]) -> u64
     ensures { result ≡ number (map second_bit headers) }
 {
-    // By weights: `headers.iter().rev().fold(0, |x, h| (x << 1) | flag(*h))` is no plainer than this sum.
-    let [a, b, c, d] = headers.map(flag);
-    a + 2 * b + 4 * c + 8 * d
+    headers.iter().rev().fold(0, |x, &h| (x << 1) | flag(h))
 }
 
 // Part i of a group, where payload `at` loses its bits 4 to 7. The last four bits of `before`, the word in front of payload x,

@@ -49,14 +49,14 @@ remainder_none m register size h = record {
         (λ i l. ap (λ z. z ⊗ pow ring (pow ring alpha k) (n - 1 - i)) (same (symbol register i) group.zero (ap (λ x. x % 1024) (none i (dec_lt i 33)))) ∙ zero-times group ring laws.field (pow ring (pow ring alpha k) (n - 1 - i)))
 
 -- one symbol more
-module _ (m : List ℕ) (n : ℕ) (old new : List ℕ) (small : get_or m n 0 < 1024) (size : length new ≡ 33) (r : Remainder m n old) (s : Shifted old (bit_xor (get_or m n 0) (get_or old 0 0)) 0 32 new) where
+module _ (m : List ℕ) (n : ℕ) (old new : List ℕ) (small : get_or m n 0 < 1024) (size : length new ≡ 33) (r : Remainder m n old) (s : Shifted old (bit_xor (get_or m n 0) (get_or old 0 0)) 32 new) where
   still : Register new
-  still = still_register old new (bit_xor (get_or m n 0) (get_or old 0 0)) 0 32 (xor_lt 10 (get_or m n 0) (get_or old 0 0) small (r.register.small 0)) r.register size s
+  still = still_register old new (bit_xor (get_or m n 0) (get_or old 0 0)) 32 (xor_lt 10 (get_or m n 0) (get_or old 0 0) small (r.register.small 0)) r.register size s
 
   stepped : (j : ℕ) → j < 30 → symbol new j ≡ symbol old (suc j) ⊕ (symbol m n ⊕ symbol old 0) ⊗ element (tap j)
   stepped j l =
       same _ _
-      (small_is (get_or new j 0) (still.small j) ∙ s.step j (omega arith) (omega arith)
+      (small_is (get_or new j 0) (still.small j) ∙ s.step j (omega arith)
       ∙ ap₂ bit_xor (sym (small_is (get_or old (j + 1) 0) (r.register.small (j + 1))) ∙ ap (λ i. get_or old i 0 % 1024) (add-one j))
       (ap₂ times (ap₂ bit_xor (sym (small_is (get_or m n 0) small)) (sym (small_is (get_or old 0 0) (r.register.small 0)))) (sym (small_is (tap j) (tap-small j l)))))
 

@@ -18,14 +18,14 @@ unfolding shifted
 shifted-length old f zero = refl
 shifted-length old f (suc b) = length-set (shifted old f b) b (bit_xor (get_or (shifted old f b) (b + 1) 0) (times f (tap b))) ∙ shifted-length old f b
 
-shifted_is : (old : List ℕ) (f b : ℕ) → b ≤ length old → Shifted old f 0 b (shifted old f b)
+shifted_is : (old : List ℕ) (f b : ℕ) → b ≤ length old → Shifted old f b (shifted old f b)
 unfolding shifted
-shifted_is old f zero l = none-shifted old f 0
+shifted_is old f zero l = none-shifted old f
 shifted_is old f (suc b) l =
     let now : List ℕ = shifted old f b in
     let y : ℕ = bit_xor (get_or now (b + 1) 0) (times f (tap b)) in
-    subst (λ n. Shifted old f 0 n (set now b y)) (add-one b)
-    (one_shifted old now f 0 b y (shifted_is old f b (omega arith)) (omega arith) (let e = shifted-length old f b in omega arith) refl)
+    subst (λ n. Shifted old f n (set now b y)) (add-one b)
+    (one_shifted old now f b y (shifted_is old f b (omega arith)) (let e = shifted-length old f b in omega arith) refl)
 
 -- the register after n symbols of the message
 register : List ℕ → ℕ → List ℕ

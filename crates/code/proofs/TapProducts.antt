@@ -1,5 +1,5 @@
 -- The tables hold the products of the elements and the taps, and the two parts of an element add up.
-use Rattle.std.proofs.Common.{◌≡◌, ℕ, ◌+◌, ◌-◌, ◌*◌, ◌/◌, ◌%◌, ◌<◌, ◌≤◌, Bool, cond, T, eqb, List, [], get_or, sym, ap, ap₂, ◌∙◌, arith, eqb→eq, le-ltb}
+use Rattle.std.proofs.Common.{◌≡◌, ℕ, ◌-◌, ◌*◌, ◌/◌, ◌%◌, ◌<◌, ◌≤◌, Bool, cond, T, eqb, List, [], get_or, sym, ap, ap₂, ◌∙◌, arith, eqb→eq, le-ltb}
 use lib.Bits.{bit_xor, xor_comm, xor_shifted}
 use Rattle.gf1024.specs.Product.{step, product, times}
 use Rattle.gf1024.specs.Laws.{times_sum_left, times_sum_right}
@@ -10,23 +10,21 @@ use Rattle.code.specs.Division.{tap}
 use Rattle.code.specs.declared.products.TheConstants.{LOW, HIGH}
 use Rattle.code.proofs.Generator.{coefficient, coefficient_is}
 
--- what stands at the place r of the row q of a
-abbrev pub entry : List (List (List ℕ)) → ℕ → ℕ → ℕ → ℕ
-entry rows a q r = get_or (get_or (get_or rows a []) q []) r 0
+-- what stands at the place p of the row of a
+abbrev pub entry : List (List ℕ) → ℕ → ℕ → ℕ
+entry rows a p = get_or (get_or rows a []) p 0
 
 -- each entry is the product of f a and a tap
-fits : List (List (List ℕ)) → (ℕ → ℕ) → ℕ → ℕ → ℕ → Bool
-fits rows f a q r = eqb (entry rows a q r) (times (f a) (coefficient (8 * q + r)))
+fits : List (List ℕ) → (ℕ → ℕ) → ℕ → ℕ → Bool
+fits rows f a p = eqb (entry rows a p) (times (f a) (coefficient p))
 
-all_fit : List (List (List ℕ)) → (ℕ → ℕ) → Bool
-all_fit rows f = every (λ a. every (λ q. every (fits rows f a q) 8) 4) 32
+all_fit : List (List ℕ) → (ℕ → ℕ) → Bool
+all_fit rows f = every (λ a. every (fits rows f a) 32) 32
 
-fit_at : (rows : List (List (List ℕ))) (f : ℕ → ℕ) → T (all_fit rows f) → (a q r : ℕ) → a < 32 → q < 4 → r < 8 → entry rows a q r ≡ times (f a) (tap (8 * q + r))
+fit_at : (rows : List (List ℕ)) (f : ℕ → ℕ) → T (all_fit rows f) → (a p : ℕ) → a < 32 → p < 32 → entry rows a p ≡ times (f a) (tap p)
 unfolding all_fit fits
-fit_at rows f t a q r ha hq hr =
-    eqb→eq (entry rows a q r) (times (f a) (coefficient (8 * q + r)))
-    (every_at (fits rows f a q) 8 (every_at (λ q. every (fits rows f a q) 8) 4 (every_at (λ a. every (λ q. every (fits rows f a q) 8) 4) 32 t a ha) q hq) r hr)
-    ∙ ap (times (f a)) (coefficient_is (8 * q + r))
+fit_at rows f t a p ha hp =
+    eqb→eq (entry rows a p) (times (f a) (coefficient p)) (every_at (fits rows f a) 32 (every_at (λ a. every (fits rows f a) 32) 32 t a ha) p hp) ∙ ap (times (f a)) (coefficient_is p)
 
 lows_fit : T (all_fit LOW (λ a. a))
 unfolding all_fit fits coefficient times product step
@@ -37,11 +35,11 @@ unfolding all_fit fits coefficient times product step
 highs_fit = tt
 
 -- an element is the sum of its lower five bits and its upper ones, and so are its products
-pub product_at : (a q r : ℕ) → a < 1024 → q < 4 → r < 8 → bit_xor (entry LOW (a % 32) q r) (entry HIGH (a / 32) q r) ≡ times a (tap (8 * q + r))
-product_at a q r ha hq hr =
-    ap₂ bit_xor (fit_at LOW (λ a. a) lows_fit (a % 32) q r (omega arith) hq hr) (fit_at HIGH (λ b. b * 32) highs_fit (a / 32) q r (omega arith) hq hr)
-    ∙ sym (times_sum_left (tap (8 * q + r)) (a % 32) (a / 32 * 32))
-    ∙ ap (λ y. times y (tap (8 * q + r))) joined
+pub product_at : (a p : ℕ) → a < 1024 → p < 32 → bit_xor (entry LOW (a % 32) p) (entry HIGH (a / 32) p) ≡ times a (tap p)
+product_at a p ha hp =
+    ap₂ bit_xor (fit_at LOW (λ a. a) lows_fit (a % 32) p (omega arith) hp) (fit_at HIGH (λ b. b * 32) highs_fit (a / 32) p (omega arith) hp)
+    ∙ sym (times_sum_left (tap p) (a % 32) (a / 32 * 32))
+    ∙ ap (λ y. times y (tap p)) joined
   where
     joined : bit_xor (a % 32) (a / 32 * 32) ≡ a
     joined = xor_comm (a % 32) (a / 32 * 32) ∙ xor_shifted (a / 32) 5 (a % 32) (omega arith) ∙ omega arith

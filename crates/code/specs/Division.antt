@@ -16,10 +16,9 @@ pub record Register (r : List ℕ) : Type 0 where
   pub small : (i : ℕ) → slice_index r i < 1024
   pub behind : (i : ℕ) → 30 ≤ i → slice_index r i ≡ 0
 
--- the places from a to b of the register are shifted, with the feedback f
-pub record Shifted (old : List ℕ) (f a b : ℕ) (new : List ℕ) : Type 0 where
-  pub before : (j : ℕ) → j < a → slice_index new j ≡ slice_index old j
-  pub step : (j : ℕ) → a ≤ j → j < b → slice_index new j ≡ bit_xor (slice_index old (j + 1)) (times f (tap j))
+-- the first b places of the register are shifted, with the feedback f
+pub record Shifted (old : List ℕ) (f b : ℕ) (new : List ℕ) : Type 0 where
+  pub step : (j : ℕ) → j < b → slice_index new j ≡ bit_xor (slice_index old (j + 1)) (times f (tap j))
   pub after : (j : ℕ) → b ≤ j → slice_index new j ≡ slice_index old j
 
 -- the value at alpha^k of the first n symbols of the message times x^30

@@ -1,5 +1,5 @@
 // The remainder of a message or a word by the generator.
-ghost use Rattle.std.specs.Prelude.{◌≡◌, ℕ, ◌+◌, ◌*◌, ◌<◌, ◌≤◌, MatchBool, bit_xor, slice_index};
+ghost use Rattle.std.specs.Prelude.{◌≡◌, ℕ, ◌<◌, ◌≤◌, MatchBool, bit_xor, slice_index};
 ghost use Rattle.code.specs.Division.{Register, Shifted, Remainder, WordRemainder, NoRemainder};
 
 use super::products::product;
@@ -13,26 +13,16 @@ pub struct ShiftRegister {
 }
 
 impl ShiftRegister {
-    // Shifts the eight places from 8 q on by one place, and adds the products of the feedback and their taps.
-    fn shift_eight(&mut self, feedback: u16, q: usize)
-        requires { (feedback < 1024) × (q < 4) }
-        ensures { Shifted self.old.symbols feedback (8 * q) (8 * q + 8) self.new.symbols }
-    {
-        let symbols = &mut self.symbols;
-        // By index: each place takes the symbol of the next one.
-        for r in 0..8 {
-            symbols[8 * q + r] = symbols[8 * q + r + 1] ^ product(feedback, q, r);
-        }
-    }
-
     // Takes the next symbol into the register: it shifts by one place, and the sum of that symbol and its first one goes to the taps.
     fn shift(&mut self, next: u16)
         requires { next < 1024 }
-        ensures { Shifted self.old.symbols (bit_xor next (slice_index self.old.symbols 0)) 0 32 self.new.symbols }
+        ensures { Shifted self.old.symbols (bit_xor next (slice_index self.old.symbols 0)) 32 self.new.symbols }
     {
         let feedback = next ^ self.symbols[0];
-        for q in 0..4 {
-            self.shift_eight(feedback, q);
+        let symbols = &mut self.symbols;
+        // By index: each place takes the symbol of the next one.
+        for p in 0..32 {
+            symbols[p] = symbols[p + 1] ^ product(feedback, p);
         }
     }
 
@@ -66,7 +56,7 @@ impl Symbols<'_, SIZE> {
     {
         let word = self.symbols;
         let mut symbols = self.divide().symbols;
-        // By index: of an array behind `iter_mut().zip(..)` a proof knows no element.
+        // By index: of an array behind `iter_mut().zip(..)` a proof knows no element, and `from_fn` would need a case for the three zeros.
         for (j, s) in word[MESSAGE..].iter().enumerate() {
             symbols[j] ^= *s;
         }

@@ -9,6 +9,9 @@ use code::{Engine, FullEngine, Refusal, WatchEngine};
 use std::io::{BufRead, BufReader};
 use std::{array, io};
 
+// The number of rows of a codeword.
+const ROWS: usize = 17;
+
 // Symbols that are the same on every run. The program repair has a copy: a crate for both would be longer.
 #[derive(Drop)]
 struct Sequence {
@@ -53,31 +56,37 @@ fn encodes(word: &[u16; 544]) -> bool {
     code::encode(&word[0..514], &mut made).is_ok() && *word == made
 }
 
+// Prints how many rows of a codeword were whole, and what the library says of it.
+fn print_codeword(
+    rt: &HostRuntime,
+    name: &str,
+    word: &[u16; 544],
+    whole: &[bool; ROWS],
+) -> io::Result<()> {
+    let count = whole.iter().filter(|w| **w).count();
+    let last = whole[ROWS - 1];
+    let is_codeword = code::is_codeword(word);
+    let alike = encodes(word);
+    println!(rt; "{name}: {count} of {ROWS} rows whole, the last one {last}")?;
+    println!(rt; "  a codeword {is_codeword}, encoded alike {alike}")
+}
+
+// Prints each codeword when its last row has come; a row then overwrites the one of the codeword before.
 fn try_codewords(rt: &HostRuntime) -> anyhow::Result<()> {
     let mut word = [0u16; 544];
-    let mut rows = 0usize;
-    let mut whole = 0usize;
-    for line in BufReader::new(rt.alloc(), rt.stdin())?.lines(rt.alloc()) {
+    let mut whole = [false; ROWS];
+    let lines = BufReader::new(rt.alloc(), rt.stdin())?.lines(rt.alloc());
+    for (n, line) in lines.enumerate() {
         let line = line?;
         let mut words = line.as_str().split_whitespace();
         let name = words.next().unwrap_or("");
         let status = words.next().unwrap_or("");
-        let row = words.next().unwrap_or("");
-        if let Some(symbols) = word.chunks_exact_mut(32).nth(rows) {
-            read_row(symbols, row.as_bytes());
-        }
-        rows = rows.saturating_add(1);
-        let last_whole = status == "whole";
-        if last_whole {
-            whole = whole.saturating_add(1);
-        }
-        if rows == 17 {
-            let is_codeword = code::is_codeword(&word);
-            let alike = encodes(&word);
-            println!(rt; "{name}: {whole} of 17 rows whole, the last one {last_whole}")?;
-            println!(rt; "  a codeword {is_codeword}, encoded alike {alike}")?;
-            rows = 0;
-            whole = 0;
+        let digits = words.next().unwrap_or("");
+        let row = n % ROWS;
+        read_row(&mut word[32 * row..32 * row + 32], digits.as_bytes());
+        whole[row] = status == "whole";
+        if row == ROWS - 1 {
+            print_codeword(rt, name, &word, &whole)?;
         }
     }
     Ok(())

@@ -1,8 +1,14 @@
 -- What decoding a word means: the codeword within reach, or none.
 use Rattle.std.specs.Prelude.{◌≡◌, ℕ, ◌*◌, ◌<◌, ◌≤◌, Bool, ◌⊎◌, List, length, MatchBool, slice_index_or}
 use Rattle.field.specs.Laws.{Group, Ring}
-use Rattle.field.specs.Places.{Among}
+use Rattle.field.specs.Places.{Among, Apart}
+use Rattle.decoder.specs.declared.word.Word.{Word}
 use Rattle.decoder.specs.Words.{word_syndrome}
+
+-- a word can be decoded into out: its points differ, the reach is below sixteen, and out is as long as the word, at most 544
+abbrev pub Decodable : {F : Type 0} → Group F → Word F → ℕ → List F → Type 0
+Decodable g w reach out =
+    Apart (length w.points.now) (λ i. slice_index_or w.points.now i g.zero) × (reach < 16) × (length out ≡ length w.symbols.now) × (length w.symbols.now ≤ 544)
 
 -- the first m syndromes of the word c of n symbols at the points xs are zero
 abbrev pub Codeword : {F : Type 0} → Group F → Ring F → List F → ℕ → ℕ → List F → Type 0

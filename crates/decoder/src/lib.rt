@@ -1,9 +1,8 @@
 // Decodes words over any field, given a point for each place. All work stands in arrays of the caller.
 #![tactic(auto)]
 
-ghost use Rattle.std.specs.Prelude.{◌≡◌, ◌*◌, ◌<◌, ◌≤◌, is_ok, length, slice_index_or};
-ghost use Rattle.field.specs.Places.{Apart};
-ghost use Rattle.decoder.specs.Decoding.{Proposed, Decoded};
+ghost use Rattle.std.specs.Prelude.{◌≡◌, ◌*◌, ◌≤◌, is_ok, length};
+ghost use Rattle.decoder.specs.Decoding.{Decodable, Proposed, Decoded};
 ghost use Rattle.decoder.specs.Words.{Syndromes};
 
 use field::Field;
@@ -13,10 +12,12 @@ mod errors;
 mod roots;
 mod syndromes;
 mod window;
+mod word;
 
 pub use elimination::Row;
 pub use roots::evaluate;
 pub use syndromes::is_codeword;
+pub use word::Word;
 
 // Room for the decoding of words of up to 544 symbols with a reach of up to 15. What it holds does not matter.
 // Fixed arrays, since there is no heap: `values` and `found` have room for all places, `located` and `terms` for the reach.
@@ -39,20 +40,22 @@ impl<F: Field + Copy> Work<F> {
     // The points must differ, and all fit the room; the caller sees to that.
     pub fn decode(
         &mut self,
-        word: &[F],
-        points: &[F],
+        word: &Word<'_, F>,
         reach: usize,
         out: &mut [F],
     ) -> Result<(), OutOfReach>
-        requires points { (length points.now ≡ length word.now) × (Apart (length points.now) (λ i. slice_index_or points.now i F.Adds.group.zero)) }
-        requires sizes { (reach < 16) × ((length out.old ≡ length word.now) × (length word.now ≤ 544)) }
-        ensures { Decoded F.Adds.group F.Field.ring points.now (length word.now) reach word.now out.new (is_ok result) }
+        requires { Decodable F.Adds.group word.now reach out.old }
+        ensures { Decoded F.Adds.group F.Field.ring word.now.points.now (length word.now.symbols.now) reach word.now.symbols.now out.new (is_ok result) }
     {
-        syndromes::compute(word, points, &mut self.syndromes);
+        syndromes::compute(word, &mut self.syndromes);
         // A copy, since to propose takes all of the room.
         let mut s = self.syndromes;
-        self.propose(word, &s, points, reach, out)?;
-        if is_codeword(out, points, &mut s[..2 * reach]) {
+        self.propose(word, &s, reach, out)?;
+        let proposal = Word {
+            symbols: out,
+            points: word.points,
+        };
+        if is_codeword(&proposal, &mut s[..2 * reach]) {
             Ok(())
         } else {
             Err(OutOfReach)
@@ -63,21 +66,19 @@ impl<F: Field + Copy> Work<F> {
     // The syndromes s are those of the word; that, too, the caller sees to. Whether out is a codeword is not checked.
     pub fn propose(
         &mut self,
-        word: &[F],
+        word: &Word<'_, F>,
         s: &[F],
-        points: &[F],
         reach: usize,
         out: &mut [F],
     ) -> Result<(), OutOfReach>
-        requires points { (length points.now ≡ length word.now) × (Apart (length points.now) (λ i. slice_index_or points.now i F.Adds.group.zero)) }
-        requires sizes { (reach < 16) × ((length out.old ≡ length word.now) × ((length word.now ≤ 544) × (2 * reach ≤ length s.now))) }
-        requires syndromes { Syndromes F.Adds.group F.Field.ring word.now points.now (length word.now) (2 * reach) s.now }
-        ensures { Proposed F.Adds.group F.Field.ring points.now (length word.now) reach word.now out.new (is_ok result) }
+        requires word { Decodable F.Adds.group word.now reach out.old }
+        requires syndromes { (2 * reach ≤ length s.now) × Syndromes F.Adds.group F.Field.ring word.now.symbols.now word.now.points.now (length word.now.symbols.now) (2 * reach) s.now }
+        ensures { Proposed F.Adds.group F.Field.ring word.now.points.now (length word.now.symbols.now) reach word.now.symbols.now out.new (is_ok result) }
     {
         let locator = elimination::locate(&mut self.rows[..reach + 1], s);
         let found = roots::find(
             &locator.coefficients[..locator.degree + 1],
-            points,
+            word.points,
             &mut self.values,
             &mut self.found,
         );
@@ -86,8 +87,8 @@ impl<F: Field + Copy> Work<F> {
             return Err(OutOfReach);
         }
         let located = &mut self.located[..m];
-        errors::gather(located, points, found);
-        out.copy_from_slice(word);
+        errors::gather(located, word.points, found);
+        out.copy_from_slice(word.symbols);
         errors::subtract(out, &s[..m], &mut self.terms[..m], located, found);
         Ok(())
     }

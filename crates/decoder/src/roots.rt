@@ -1,22 +1,10 @@
 // The error places: the roots of the locator among the points.
 ghost use Rattle.std.specs.Prelude.{◌≤◌, length};
-ghost use Rattle.decoder.specs.Words.{Stepped, Values, falling};
+ghost use Rattle.decoder.specs.Words.{Values, falling};
 ghost use Rattle.decoder.specs.Errors.{Found};
 
 use super::syndromes::clear;
 use field::Field;
-
-// Multiplies each value by its point, and adds the coefficient c.
-// Points and values stay two slices here and below: the public `evaluate` takes them so, and would take a pair apart.
-fn step<F: Field + Copy>(values: &mut [F], points: &[F], c: F)
-    requires { length points.now ≤ length values.old }
-    ensures { Stepped F.Adds.group F.Field.ring values.old points.now c (length points.now) values.new }
-{
-    // By index: a zip over `values.iter_mut()` says nothing of what is written.
-    for (i, x) in points.iter().enumerate() {
-        values[i] = values[i].mul(*x).add(c);
-    }
-}
 
 // The values at the points of the polynomial with the coefficients v, lowest first.
 // The lengths are the caller's to see to.
@@ -26,7 +14,10 @@ pub fn evaluate<F: Field + Copy>(v: &[F], points: &[F], values: &mut [F])
 {
     clear(values);
     for c in v.iter().rev() {
-        step(values, points, *c);
+        // By index: a zip over `values.iter_mut()` says nothing of what is written.
+        for (i, x) in points.iter().enumerate() {
+            values[i] = values[i].mul(*x).add(*c);
+        }
     }
 }
 
@@ -34,10 +25,10 @@ pub fn evaluate<F: Field + Copy>(v: &[F], points: &[F], values: &mut [F])
 pub fn find<'a, F: Field + Copy>(
     v: &[F],
     points: &[F],
-    values: &mut [F],
-    found: &'a mut [usize],
+    values: &mut [F; 544],
+    found: &'a mut [usize; 544],
 ) -> &'a [usize]
-    requires { (length points.now ≤ length values.old) × (length points.now ≤ length found.old) }
+    requires { length points.now ≤ 544 }
     ensures { Found F.Adds.group F.Field.ring v.now (length v.now) points.now (length points.now) result.now (length result.now) }
 {
     let values = &mut values[..points.len()];

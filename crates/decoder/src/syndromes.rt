@@ -3,6 +3,7 @@ ghost use Rattle.std.specs.Prelude.{◌≡◌, ℕ, ◌<◌, length, MatchBool, 
 ghost use Rattle.decoder.specs.Words.{TermAdded, Syndromes};
 ghost use Rattle.decoder.specs.Decoding.{Codeword};
 
+use crate::word::Word;
 use field::Field;
 
 // Adds the term a x^k to each syndrome k.
@@ -27,24 +28,20 @@ pub fn clear<F: Field + Copy>(s: &mut [F])
     );
 }
 
-// As many syndromes of the word at the points as s has room for.
-// Word and points stay two slices: the public functions take them so, and a pair would serve only this one.
-pub fn compute<F: Field + Copy>(word: &[F], points: &[F], s: &mut [F])
-    requires { length points.now ≡ length word.now }
-    ensures { Syndromes F.Adds.group F.Field.ring word.now points.now (length word.now) (length s.old) s.new }
+// As many syndromes of the word as s has room for.
+pub fn compute<F: Field + Copy>(word: &Word<'_, F>, s: &mut [F])
+    ensures { Syndromes F.Adds.group F.Field.ring word.now.symbols.now word.now.points.now (length word.now.symbols.now) (length s.old) s.new }
 {
     clear(s);
-    for (a, x) in word.iter().zip(points) {
+    for (a, x) in word.symbols.iter().zip(word.points) {
         add_term(s, *a, *x);
     }
 }
 
 // Whether as many syndromes of the word as s has room for are zero. It answers a question, so a bool; s is for the work.
-// The lengths are the caller's to see to.
-pub fn is_codeword<F: Field + Copy>(word: &[F], points: &[F], s: &mut [F]) -> bool
-    requires { length points.now ≡ length word.now }
-    ensures { MatchBool result (Codeword F.Adds.group F.Field.ring points.now (length word.now) (length s.old) word.now) (Codeword F.Adds.group F.Field.ring points.now (length word.now) (length s.old) word.now → ⊥) }
+pub fn is_codeword<F: Field + Copy>(word: &Word<'_, F>, s: &mut [F]) -> bool
+    ensures { MatchBool result (Codeword F.Adds.group F.Field.ring word.now.points.now (length word.now.symbols.now) (length s.old) word.now.symbols.now) (Codeword F.Adds.group F.Field.ring word.now.points.now (length word.now.symbols.now) (length s.old) word.now.symbols.now → ⊥) }
 {
-    compute(word, points, s);
+    compute(word, s);
     s.iter().all(|y| y.is_zero())
 }

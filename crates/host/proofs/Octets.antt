@@ -1,8 +1,11 @@
 -- Symbols in octets.
-use Rattle.std.proofs.Common.{◌≡◌, ℕ, zero, suc, ◌+◌, ◌*◌, ◌/◌, ◌%◌, ◌<◌, true, eqb, List, [], length, drop, get_or, ap, ◌∙◌, ap₂, add-zero, inl, inr, arith}
+use Rattle.std.proofs.Common.{◌≡◌, ℕ, zero, suc, ◌+◌, ◌*◌, ◌/◌, ◌%◌, ◌^◌, ◌<◌, true, eqb, List, [], ◌∷◌, map, length, drop, get_or, ap, ◌∙◌, ap₂, add-zero, inl, inr, arith}
 use Rattle.std.proofs.lemmas.List.{ext_get_or, get_or-drop}
 use Rattle.std.proofs.lemmas.Grind.{common_steps}
+use Rattle.std.specs.Int.{to_le_bytes}
+use Rattle.std.specs.List.{flat_map}
 use Rattle.std.specs.Simd.{first_chunks}
+use mir.Syntax.{w16}
 use Rattle.std.proofs.lemmas.Bool.{eq-eqb, eqb-true, cases_Bool}
 use Rattle.blocks.specs.Bits.{table}
 use Rattle.blocks.proofs.Scrambles.{length-table, nth-table}
@@ -46,3 +49,14 @@ octets_of xs n p h = elim (cases_Bool (eqb (length xs % 2) 0)) [
 
 pub symbols_of : (xs : List ℕ) (n : ℕ) → length xs ≡ 2 * n → length (symbols_in xs) ≡ n
 symbols_of xs n h = ap length (symbols_table xs n h) ∙ length-table n (symbol_at xs)
+
+-- symbols stored one after another
+pub stored : (xs : List ℕ) → ((k : ℕ) → get_or xs k 0 < 2 ^ 16) → (k : ℕ) → k < length xs → symbol_at (flat_map (λ l. l) (map (to_le_bytes w16) xs)) k ≡ get_or xs k 0
+stored [] small k h = absurd (omega arith)
+stored (x ∷ xs) small zero h = let s = small 0 in omega arith
+stored (x ∷ xs) small (suc k) h =
+    let ys : List ℕ = flat_map (λ l. l) (map (to_le_bytes w16) (x ∷ xs)) in
+    let e : 2 * suc k ≡ suc (suc (2 * k)) = omega arith in
+    let f : 2 * suc k + 1 ≡ suc (suc (2 * k + 1)) = omega arith in
+    ap₂ (λ (u v : ℕ). u + 256 * v) (ap (λ (i : ℕ). get_or ys i 0) e) (ap (λ (i : ℕ). get_or ys i 0) f)
+    ∙ stored xs (λ i. small (suc i)) k (omega arith)

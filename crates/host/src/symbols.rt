@@ -12,12 +12,9 @@ pub fn load<const N: usize>(octets: &[u8]) -> [u16; N]
     array::from_fn(|i| u16::from_le_bytes(pairs[i]))
 }
 
-pub fn store(symbols: &[u16], octets: &mut [u8])
-    requires { length octets.old ≡ 2 * length symbols.now }
+pub fn store(symbols: &[u16; 544], octets: &mut [u8])
+    requires { length octets.old ≡ 1088 }
     ensures { symbols_in octets.new ≡ symbols.now }
 {
-    // By ranges: the contract of `as_chunks_mut` doesn't say what the slice ends as.
-    for (i, symbol) in symbols.iter().enumerate() {
-        octets[2 * i..2 * i + 2].copy_from_slice(&symbol.to_le_bytes());
-    }
+    octets.copy_from_slice(symbols.map(u16::to_le_bytes).as_flattened());
 }

@@ -17,11 +17,12 @@ pub trait Rate {
 
     ghost PAIRS: { ℕ };
 
-    // An octet of a lane's marker, by lane and index.
+    // An octet of a lane's marker, by lane and index. Clauses name `LANES` and `octet`, as the laws do: a definition over
+    // the record `R.Rate`, as `passes_of r = passes r.LANES r.octet`, would be one more name beside each of theirs.
     ghost octet: { ℕ → ℕ → ℕ };
 
-    // The marker of a lane; zeros past the lanes. With a constant table of letters in place of `octet` and `marker` an impl would
-    // be no shorter.
+    // The marker of a lane; zeros past the lanes. By a rule of the project its octets come from a function with laws, so
+    // that anyone may add a lawful rate.
     fn marker(lane: usize) -> [u8; 15]
         ensures { result ≡ marker_at LANES octet lane };
 

@@ -1,24 +1,40 @@
 -- Symbols, bits and octets of a lane.
-use Rattle.std.proofs.Common.{◌≡◌, ℕ, zero, suc, ◌+◌, ◌-◌, ◌*◌, ◌/◌, ◌%◌, ◌^◌, ◌<◌, ◌≤◌, List, ◌++◌, length, take, drop, sym, ap, ◌∙◌, ap₂, inl, inr, append_assoc, suc-mul, zero-mul, add-one, arith, length-append}
+use Rattle.std.proofs.Common.{◌≡◌, ℕ, zero, suc, ◌+◌, ◌-◌, ◌*◌, ◌/◌, ◌%◌, ◌^◌, ◌<◌, ◌≤◌, List, ◌++◌, bit_or, fold, length, reverse, take, drop, sym, refl, ap, ◌∙◌, ap₂, inl, inr, append_assoc, suc-mul, zero-mul, add-one, arith, length-append}
 use borrow.Rule.Slice.PartMut.{put_mid}
+use Rattle.std.proofs.lemmas.Grind.{or_after_shift}
 use Rattle.std.proofs.lemmas.List.{take_at, take_all, length-take-le}
-use Rattle.blocks.specs.Bits.{bit, field, octets, table}
+use Rattle.blocks.specs.Bits.{bit, field, octets, table, nth}
 use Rattle.blocks.proofs.Fields.{field_join, field-append, length-field}
 use Rattle.blocks.proofs.Scrambles.{table_same, table-append, field-table, length-table}
 use Rattle.blocks.proofs.Bytes.{octets-append, length-octets, put_at, put_more}
 use Rattle.sender.specs.Strips.{lane_symbol, pair_bit, lane_octets, strip_octets}
-use Rattle.sender.specs.Packing.{four_symbols, quad_bits, Lanes}
+use Rattle.sender.specs.Packing.{four_symbols, quad_bits, Small, Lanes}
+use Rattle.sender.proofs.Messaged.{symbols_all}
 
-pub packs : (s t u v : ℕ) → s < 1024 → t < 1024 → u < 1024 → v < 1024 → field (s + t * 1024 + u * 1048576 + v * 1073741824) 0 40 ≡ four_symbols s t u v
-packs s t u v hs ht hu hv =
-    let n3 : ℕ = v in
-    let n2 : ℕ = v * 2 ^ 10 + u in
-    let n1 : ℕ = (v * 2 ^ 10 + u) * 2 ^ 10 + t in
-    let whole : s + t * 1024 + u * 1048576 + v * 1073741824 ≡ n1 * 2 ^ 10 + s = omega arith in
-    ap (λ (x : ℕ). field x 0 40) whole
-    ∙ field_join n1 10 s 30 hs ∙ ap (λ (l : List ℕ). field s 0 10 ++ l) (
-    field_join n2 10 t 20 ht ∙ ap (λ (l : List ℕ). field t 0 10 ++ l) (
-    field_join n3 10 u 10 hu))
+-- one symbol more below those that are in
+abbrev pub below : ℕ → ℕ → ℕ
+below x s = bit_or (x * 1024 % 2 ^ 64) s
+
+pub packs : (symbols : List ℕ) → length symbols ≡ 4 → Small symbols →
+    field (fold below 0 (reverse symbols)) 0 40 ≡ four_symbols (nth symbols 0) (nth symbols 1) (nth symbols 2) (nth symbols 3)
+unfolding table
+packs symbols n h =
+    let at : ℕ → ℕ = nth symbols in
+    let n3 : ℕ = at 3 in
+    let n2 : ℕ = n3 * 2 ^ 10 + at 2 in
+    let n1 : ℕ = n2 * 2 ^ 10 + at 1 in
+    let put : (x i y : ℕ) → x < 2 ^ 30 → y ≡ x → below y (at i) ≡ x * 2 ^ 10 + at i = λ x i y l e. ap (λ (z : ℕ). below z (at i)) e ∙ or_after_shift x 1024 (2 ^ 64) (at i) refl (h i) (omega arith) in
+    let b0 = h 0 in
+    let b1 = h 1 in
+    let b2 = h 2 in
+    let b3 = h 3 in
+    let all : fold below 0 (reverse symbols) ≡ n1 * 2 ^ 10 + at 0 =
+    ap (λ (xs : List ℕ). fold below 0 (reverse xs)) (symbols_all symbols at 4 n (λ k l. refl))
+    ∙ put n1 0 _ (omega arith) (put n2 1 _ (omega arith) (put n3 2 _ (omega arith) (put 0 3 0 (omega arith) refl ∙ omega arith))) in
+    ap (λ (x : ℕ). field x 0 40) all
+    ∙ field_join n1 10 (at 0) 30 b0 ∙ ap (λ (l : List ℕ). field (at 0) 0 10 ++ l) (
+    field_join n2 10 (at 1) 20 b1 ∙ ap (λ (l : List ℕ). field (at 1) 0 10 ++ l) (
+    field_join n3 10 (at 2) 10 b2))
 
 -- ten bits of a lane from a symbol's first on
 ten : (lanes : ℕ) (a b : List ℕ) (l k n : ℕ) → n ≡ 10 * k → table 10 (λ i. pair_bit lanes a b l (n + i)) ≡ field (lane_symbol lanes a b l k) 0 10
@@ -30,15 +46,16 @@ ten lanes a b l k n e =
     ap₂ (λ (x y : ℕ). bit (lane_symbol lanes a b l x) y) p q)
     ∙ sym (field-table (lane_symbol lanes a b l k) 0 10)
 
-pub quad_is : (lanes : ℕ) (a b : List ℕ) (l q : ℕ) →
-    four_symbols (lane_symbol lanes a b l (4 * q)) (lane_symbol lanes a b l (4 * q + 1)) (lane_symbol lanes a b l (4 * q + 2)) (lane_symbol lanes a b l (4 * q + 3)) ≡ quad_bits lanes a b l q
-unfolding quad_bits
-quad_is lanes a b l q =
+-- four rows' symbols packed are the forty bits
+pub quad_is : (lanes : ℕ) (a b : List ℕ) (l q : ℕ) (s : List ℕ) → s ≡ table 4 (λ i. lane_symbol lanes a b l (4 * q + i)) →
+    four_symbols (nth s 0) (nth s 1) (nth s 2) (nth s 3) ≡ quad_bits lanes a b l q
+unfolding quad_bits table
+quad_is lanes a b l q s made =
     let f : ℕ → ℕ = λ i. pair_bit lanes a b l (40 * q + i) in
     let at : (m : ℕ) (i : ℕ) → f (m + i) ≡ pair_bit lanes a b l (40 * q + m + i) = λ m i. ap (pair_bit lanes a b l) (omega arith) in
     let F : ℕ → List ℕ = λ k. field (lane_symbol lanes a b l k) 0 10 in
     let part : (m k : ℕ) → 40 * q + m ≡ 10 * k → table 10 (λ i. f (m + i)) ≡ F k = λ m k e. table_same 10 (λ i. f (m + i)) (λ i. pair_bit lanes a b l (40 * q + m + i)) (λ i h. at m i) ∙ ten lanes a b l k (40 * q + m) e in
-    let p0 : table 10 f ≡ F (4 * q) = table_same 10 f (λ i. f (0 + i)) (λ i h. ap f (omega arith)) ∙ part 0 (4 * q) (omega arith) in
+    let p0 : table 10 f ≡ F (4 * q + 0) = table_same 10 f (λ i. f (0 + i)) (λ i h. ap f (omega arith)) ∙ part 0 (4 * q + 0) (omega arith) in
     let p1 : table 10 (λ i. f (10 + i)) ≡ F (4 * q + 1) = part 10 (4 * q + 1) (omega arith) in
     let p2 : table 10 (λ i. f (20 + i)) ≡ F (4 * q + 2) = part 20 (4 * q + 2) (omega arith) in
     let p3 : table 10 (λ i. f (30 + i)) ≡ F (4 * q + 3) = part 30 (4 * q + 3) (omega arith) in
@@ -46,7 +63,7 @@ quad_is lanes a b l q =
     table-append 10 10 (λ i. f (20 + i)) ∙ ap₂ (λ (x y : List ℕ). x ++ y) p2 (table_same 10 (λ i. f (20 + (10 + i))) (λ i. f (30 + i)) (λ i h. ap f (omega arith)) ∙ p3) in
     let t2 : table 30 (λ i. f (10 + i)) ≡ F (4 * q + 1) ++ (F (4 * q + 2) ++ F (4 * q + 3)) =
     table-append 10 20 (λ i. f (10 + i)) ∙ ap₂ (λ (x y : List ℕ). x ++ y) p1 (table_same 20 (λ i. f (10 + (10 + i))) (λ i. f (20 + i)) (λ i h. ap f (omega arith)) ∙ t3) in
-    sym (table-append 10 30 f ∙ ap₂ (λ (x y : List ℕ). x ++ y) p0 t2)
+    ap (λ (s : List ℕ). four_symbols (nth s 0) (nth s 1) (nth s 2) (nth s 3)) made ∙ sym (table-append 10 30 f ∙ ap₂ (λ (x y : List ℕ). x ++ y) p0 t2)
 
 -- five octets of forty bits
 pub five_octets : (x : ℕ) (bytes : List ℕ) → bytes ≡ octets 8 (field x 0 64) → take 5 bytes ≡ octets 5 (field x 0 40)

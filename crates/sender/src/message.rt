@@ -14,7 +14,7 @@ const MESSAGE_BITS: usize = 10280;
 
 const WORD_BITS: usize = 64;
 
-// A message as far as it is written, one bit a byte.
+// A message as far as it is written, one bit a byte. An array with a length beside it, since there is no heap.
 #[derive(Drop)]
 pub(crate) struct Message {
     bits: [u8; MESSAGE_BITS],

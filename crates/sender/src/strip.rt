@@ -5,6 +5,8 @@ ghost use Rattle.sender.specs.Strips.{lane_symbol, lane_octets, strip_octets};
 ghost use Rattle.sender.specs.Packing.{four_symbols, quad_bits, Small, AllSmall, word_of};
 
 use lanes::Rate;
+use std::array::from_fn;
+use std::marker::PhantomData;
 
 // The bytes of a pair on all lanes.
 pub(crate) const STRIP_BYTES: usize = 1360;
@@ -19,63 +21,74 @@ pub(crate) struct Words {
     ghost small: { AllSmall words },
 }
 
-// Five octets from four symbols. By weights, the first symbol lowest: a fold would run from the last one back.
+// Five octets from four symbols, the first symbol lowest.
 fn packed(symbols: [u16; 4]) -> u64
     requires { Small symbols }
     ensures { field result 0 40 ≡ four_symbols (nth symbols 0) (nth symbols 1) (nth symbols 2) (nth symbols 3) }
 {
-    let [s, t, u, v] = symbols;
-    u64::from(s) + u64::from(t) * 1024 + u64::from(u) * 1048576 + u64::from(v) * 1073741824
+    symbols
+        .iter()
+        .rev()
+        .fold(0, |x, s| (x << 10) | u64::from(*s))
 }
 
-// A lane is told by its number: a type of numbers below the lanes would be made anew for each of them.
-impl Words {
-    // The symbol of a lane in a row.
-    fn symbol<R: Rate>(&self, lane: usize, row: usize) -> u16
-        requires { (lane < R.LANES) × (row < 1088 / R.LANES) }
-        ensures value { result ≡ lane_symbol R.LANES (word_of self.now.words 0) (word_of self.now.words 1) lane row }
+// One lane of the two words, by its number.
+#[derive(Drop)]
+struct Lane<'a, R: Rate> {
+    words: &'a Words,
+    number: usize,
+    rate: PhantomData<R>,
+    ghost below: { number < R.LANES },
+}
+
+impl<R: Rate> Lane<'_, R> {
+    // The symbol in a row.
+    fn symbol(&self, row: usize) -> u16
+        requires { row < 1088 / R.LANES }
+        ensures value { result ≡ lane_symbol R.LANES (word_of self.now.words.now.words 0) (word_of self.now.words.now.words 1) self.now.number row }
         ensures small { result < 1024 }
     {
-        self.words[(lane + row) % 2][R::LANES / 2 * row + lane / 2]
+        self.words.words[(self.number + row) % 2][R::LANES / 2 * row + self.number / 2]
     }
 
-    // The forty bits of a lane in four rows.
-    fn quad<R: Rate>(&self, lane: usize, q: usize) -> u64
-        requires { (lane < R.LANES) × (4 * q + 3 < 1088 / R.LANES) }
-        ensures { field result 0 40 ≡ quad_bits R.LANES (word_of self.now.words 0) (word_of self.now.words 1) lane q }
+    // The forty bits in four rows.
+    fn quad(&self, q: usize) -> u64
+        requires { 4 * q + 3 < 1088 / R.LANES }
+        ensures { field result 0 40 ≡ quad_bits R.LANES (word_of self.now.words.now.words 0) (word_of self.now.words.now.words 1) self.now.number q }
     {
-        // By four calls: with `from_fn` the proof that each call is allowed does not close.
-        packed([
-            self.symbol::<R>(lane, 4 * q),
-            self.symbol::<R>(lane, 4 * q + 1),
-            self.symbol::<R>(lane, 4 * q + 2),
-            self.symbol::<R>(lane, 4 * q + 3),
-        ])
+        packed(from_fn(|i| self.symbol(4 * q + i)))
     }
 
-    // A lane's part of the strip.
-    fn fill_lane<R: Rate>(&self, lane: usize, part: &mut [u8])
-        requires { (lane < R.LANES) × (length part.old ≡ 1360 / R.LANES) }
-        ensures { part.new ≡ lane_octets R.LANES (word_of self.now.words 0) (word_of self.now.words 1) lane }
+    // The lane's part of the strip.
+    fn fill(&self, part: &mut [u8])
+        requires { length part.old ≡ 1360 / R.LANES }
+        ensures { part.new ≡ lane_octets R.LANES (word_of self.now.words.now.words 0) (word_of self.now.words.now.words 1) self.now.number }
     {
-        // By index: of a slice lent in chunks a proof knows only the length.
+        // By index: of a slice that was lent in chunks a proof knows only the length.
         for q in 0..part.len() / QUAD_BYTES {
-            let octets = self.quad::<R>(lane, q).to_le_bytes();
+            let octets = self.quad(q).to_le_bytes();
             part[QUAD_BYTES * q..QUAD_BYTES * q + QUAD_BYTES].copy_from_slice(
                 &octets[..QUAD_BYTES],
             );
         }
     }
+}
 
+impl Words {
     // Fills the first 1,360 bytes: lane 0's part, then lane 1's. The rest stays.
     pub(crate) fn fill_strip<R: Rate>(&self, strip: &mut [u8])
         requires { 1360 ≤ length strip.old }
         ensures { strip.new ≡ strip_octets R.LANES (word_of self.now.words 0) (word_of self.now.words 1) R.LANES ++ drop 1360 strip.old }
     {
         let size = STRIP_BYTES / R::LANES;
-        // By index: of a slice lent in chunks a proof knows only the length.
-        for lane in 0..R::LANES {
-            self.fill_lane::<R>(lane, &mut strip[lane * size..lane * size + size]);
+        // By index: of a slice that was lent in chunks a proof knows only the length.
+        for number in 0..R::LANES {
+            let lane = Lane {
+                words: self,
+                number,
+                rate: PhantomData::<R>,
+            };
+            lane.fill(&mut strip[number * size..number * size + size]);
         }
     }
 }

@@ -1,16 +1,18 @@
-use Rattle.std.proofs.Common.{◌≡◌, ℕ, ◌<◌, List, length, get_or, sym, ap, ◌∙◌, rules}
-use Rattle.blocks.specs.Bits.{number}
-use Rattle.blocks.specs.Blocks.{second_bit}
+use Rattle.std.proofs.Common.{◌≡◌, List, length, sym, ap, ◌∙◌, rules}
+use Rattle.std.specs.List.{fold}
 use Rattle.blocks.specs.declared.block.Header.{Header}
-use Rattle.blocks.specs.declared.block.Header.TheVariants.{Zeros}
-use Rattle.blocks.proofs.Written.{four, mapped, weighed}
+use Rattle.blocks.proofs.Written.{pushed, shifted_in}
 use Rattle.blocks.proofs.group.flags.Goals as goal
 
 pub returns : goal.returns
 returns c =
     let hs : List Header = c.args.headers in
-    let fs : List ℕ = c.map.result in
-    let n : length fs ≡ 4 = search rules in
-    let m : length fs ≡ length hs = search rules in
-    let each : (k : ℕ) → k < length hs → get_or fs k 0 ≡ second_bit (get_or hs k Zeros) = λ k l. let w = c.map.ensures.items.at k Zeros 0 (search rules) in search rules in
-    weighed _ _ _ _ ∙ ap number (sym (four fs 0 n) ∙ mapped second_bit hs fs Zeros 0 m each)
+    let n : length hs ≡ 4 = search rules in
+    let p = c.fold.ensures.runs in
+    let q = c.rev.ensures.runs p.0 p.0.seen p.1 in
+    let s = c.iter.ensures.runs_back q.0 q.0.seen in
+    let from : q.0.from.rest.now ≡ hs = ap (λ it. it.rest.now) q.1 ∙ c.iter.ensures.rest in
+    p.3 (λ a x. pushed a x.now) (λ a x r f k. search rules)
+    ∙ ap (fold (λ a x. pushed a x.now) 0) (sym q.2.0.1)
+    ∙ s.5 pushed 0 (q.2.1 ∙ p.2)
+    ∙ rw from (shifted_in hs n)

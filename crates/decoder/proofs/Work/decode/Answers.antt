@@ -9,8 +9,8 @@ pub returns-else-is_codeword : goal.returns-else-is_codeword
 returns-else-is_codeword g c =
     let G = g.F.Adds.group in
     let R = g.F.Field.ring in
-    let word = c.args.word.now in
-    let xs = c.args.points.now in
+    let word = c.args.word.now.symbols.now in
+    let xs = c.args.word.now.points.now in
     let n = length word in
     let reach = c.args.reach in
     let out = c.propose.new.out in

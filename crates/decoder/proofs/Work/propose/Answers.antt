@@ -14,7 +14,7 @@ returns-then-m-reach g c =
     let G = g.F.Adds.group in
     let R = g.F.Field.ring in
     let laws = g.met.F.Field.field in
-    let xs = c.args.points.now in
+    let xs = c.args.word.now.points.now in
     let n = length xs in
     let reach = c.args.reach in
     let row = c.locate-locator.result in
@@ -24,7 +24,7 @@ returns-then-m-reach g c =
     let places = c.find-found.result.now in
     let m = length places in
     let found = found_all G R laws v d (reach + 1) xs n places m is.monic is.small (omega arith) c.find-found.ensures in
-    let h = few G R laws xs v places n reach m d c.requires.points.1 is.monic is.small found in
+    let h = few G R laws xs v places n reach m d c.requires.word.0 is.monic is.small found in
     λ w code near. (omega arith)
 
 pub returns : goal.returns
@@ -32,8 +32,8 @@ returns g c =
     let G = g.F.Adds.group in
     let R = g.F.Field.ring in
     let laws = g.met.F.Field.field in
-    let word = c.args.word.now in
-    let xs = c.args.points.now in
+    let word = c.args.word.now.symbols.now in
+    let xs = c.args.word.now.points.now in
     let s = c.args.s.now in
     let n = length xs in
     let reach = c.args.reach in
@@ -47,7 +47,7 @@ returns g c =
     let front = take m s in
     let located = c.gather.new.located in
     let out = c.subtract.new.word in
-    let syndromes = subst (λ k. Syndromes G R word xs k (2 * reach) s) (sym c.requires.points.0) c.requires.syndromes in
+    let syndromes = subst (λ k. Syndromes G R word xs k (2 * reach) s) (sym c.args.word.now.paired) c.requires.syndromes.1 in
     let less = subst (λ (w : List g.row.F.Denot). Subtracted G R w places located front m m out) c.copy_from_slice.ensures.after c.subtract.ensures in
-    subst (λ k. Proposal G R xs k reach word out) c.requires.points.0
-    (proposal G R laws xs v places n reach m d c.requires.points.1 is.monic is.small found word s front syndromes (λ k h. get_or-take m s k G.zero h) is.annihilates located out c.gather.ensures less)
+    subst (λ k. Proposal G R xs k reach word out) c.args.word.now.paired
+    (proposal G R laws xs v places n reach m d c.requires.word.0 is.monic is.small found word s front syndromes (λ k h. get_or-take m s k G.zero h) is.annihilates located out c.gather.ensures less)

@@ -9,8 +9,8 @@ pub loop-a-preserved : goal.loop-a-preserved
 loop-a-preserved g c = λ k h.
     let G = g.F.Adds.group in
     let R = g.F.Field.ring in
-    let w = c.args.word.now in
-    let xs = c.args.points.now in
+    let w = c.args.word.now.symbols.now in
+    let xs = c.args.word.now.points.now in
     let pair : Bor g.row.F.Denot × Bor g.row.F.Denot = (c.in-Some.a, c.in-Some.x) in
     let turn = zip_turn w xs c.loop-a.yielded c.into_iter-a-iterator.result c.loop-a.a-iterator c.next.new.self _ (cc) (cc) c.loop-a.yielded_by pair c.in-Some.is c.next.ensures.steps in
     let grown = length_push c.loop-a.yielded pair in

@@ -9,8 +9,8 @@ pub returns : goal.returns
 returns g c =
     let G = g.F.Adds.group in
     let R = g.F.Field.ring in
-    let w = c.args.word.now in
-    let xs = c.args.points.now in
+    let w = c.args.word.now.symbols.now in
+    let xs = c.args.word.now.points.now in
     let s = c.compute.new.s in
     let b = c.all.result in
     let zeros = cases_from_all _ _ _ (λ x. x ≡ G.zero) (λ x. x ≢ G.zero) c.all.ensures.ran (YieldsList-from_slice s cc) (λ x q k. search (rules, tests)) (λ x q k. search (rules, tests)) in

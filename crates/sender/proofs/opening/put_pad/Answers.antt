@@ -1,4 +1,4 @@
-use Rattle.std.proofs.Common.{◌≡◌, ℕ, ◌+◌, ◌<◌, List, length, refl, sym, ap, ◌∙◌, subst, append-nil, arith, length-append}
+use Rattle.std.proofs.Common.{◌≡◌, ℕ, ◌+◌, ◌<◌, List, length, refl, sym, ap, ◌∙◌, subst, append-nil, arith, rules, length-append}
 use Rattle.blocks.specs.Bits.{field, table, nth}
 use Rattle.blocks.proofs.Shapes.{binary_field}
 use Rattle.blocks.proofs.Scrambles.{length-table}
@@ -17,7 +17,8 @@ push-requires c =
     let n : length c.loop.message ≡ length c.args.message.now + c.loop.counter =
     ap length c.loop.invariant.0 ∙ length-append c.args.message.now (table c.loop.counter (pad_bit past)) ∙ ap (λ (k : ℕ). length c.args.message.now + k) (length-table c.loop.counter (pad_bit past)) in
     let memory : List ℕ = pad_memory c.loop.pad in
-    (omega arith, subst (λ (b : ℕ). b < 2) (sym c.next.ensures.bit) (binary_pad (nth memory) (binary_field c.loop.pad.memory 0 9) 1 0))
+    let b : c.next.result < 2 = subst (λ (b : ℕ). b < 2) (sym c.next.ensures.bit) (binary_pad (nth memory) (binary_field c.loop.pad.memory 0 9) 1 0) in
+    (omega arith, search rules)
 
 pub loop-preserved : goal.loop-preserved
 loop-preserved c =

@@ -1,14 +1,10 @@
-use Rattle.std.proofs.Common.{ℕ}
-use Rattle.blocks.specs.Bits.{nth}
-use Rattle.sender.proofs.Packs.{packs}
+use Rattle.std.proofs.Common.{◌≡◌, ℕ, length, ap, ◌∙◌, fold, reverse, rules}
+use Rattle.blocks.specs.Bits.{field}
+use Rattle.sender.proofs.Packs.{below, packs}
 use Rattle.sender.proofs.strip.packed.Goals as goal
 
 pub returns : goal.returns
 returns c =
-    let e1 = c.from.ensures in
-    let e2 = c.from-2.ensures in
-    let e3 = c.from-3.ensures in
-    let e4 = c.from-4.ensures in
-    let at : ℕ → ℕ = nth c.args.symbols in
-    let p = packs (at 0) (at 1) (at 2) (at 3) (c.requires 0) (c.requires 1) (c.requires 2) (c.requires 3) in
-    cc
+    let e : c.fold.result ≡ fold below 0 (reverse c.args.symbols) = search rules in
+    let n : length c.args.symbols ≡ 4 = search rules in
+    ap (λ (x : ℕ). field x 0 40) e ∙ packs c.args.symbols n c.requires

@@ -8,23 +8,23 @@ use Rattle.code.proofs.full.FullEngine.propose.Goals as goal
 pub propose-requires : goal.propose-requires
 propose-requires c =
     let w = c.args.word.symbols.now in
-    let es = c.load-received.result in
+    let es = c.load-elements.result in
     let xs = c.args.self.now.places.points in
     let apart = points_distinct xs (omega arith) c.args.self.now.places.filled in
-    let syndromes = syndromes_are w es xs (formed c.args.word) (omega arith) c.load-received.ensures c.args.self.now.places.filled c.args.syndromes.now c.requires in
-    (lit< tt, ((omega arith, apart), ((lit< tt, (omega arith, (omega arith, omega arith))), syndromes)))
+    let syndromes = syndromes_are w es xs (formed c.args.word) (omega arith) c.load-elements.ensures c.args.self.now.places.filled c.args.syndromes.now c.requires in
+    (lit< tt, ((apart, lit< tt, omega arith, omega arith), (omega arith, syndromes)))
 
 pub returns-in_err-propose : goal.returns-in_err-propose
 returns-in_err-propose c =
     let w = c.args.word.symbols.now in
-    let es = c.load-received.result in
+    let es = c.load-elements.result in
     let xs = c.args.self.now.places.points in
     let p = err_from_is_err_and c.from_residual.result c.from_residual.ensures.1 in
-    rw (p.1, p.2) (formed c.args.word, no_candidate w es xs (formed c.args.word) (omega arith) c.load-received.ensures c.args.self.now.places.filled c.propose.new.out c.in_err-propose.ensures)
+    rw (p.1, p.2) (formed c.args.word, no_candidate w es xs (formed c.args.word) (omega arith) c.load-elements.ensures c.args.self.now.places.filled c.propose.new.out c.in_err-propose.ensures)
 
 pub returns : goal.returns
 returns c =
     let w = c.args.word.symbols.now in
-    let es = c.load-received.result in
+    let es = c.load-elements.result in
     let xs = c.args.self.now.places.points in
-    candidate w es xs (formed c.args.word) (omega arith) c.load-received.ensures c.args.self.now.places.filled c.propose.new.out c.store.result (omega arith) c.store.ensures c.in_ok-propose.ensures
+    candidate w es xs (formed c.args.word) (omega arith) c.load-elements.ensures c.args.self.now.places.filled c.propose.new.out c.store.result (omega arith) c.store.ensures c.in_ok-propose.ensures

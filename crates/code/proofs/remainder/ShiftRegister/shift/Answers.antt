@@ -1,28 +1,31 @@
--- One row more is shifted.
-use Rattle.std.proofs.Common.{◌≡◌, ℕ, ◌+◌, ◌*◌, get_or, subst, arith}
+-- One place more is shifted.
+use Rattle.std.proofs.Common.{ℕ, ◌+◌, get_or, ◌∙◌, ap, arith}
+use Rattle.std.proofs.lemmas.List.{length-set}
 use lib.Bits.{bit_xor, xor_lt}
-use Rattle.code.specs.Division.{Shifted}
-use Rattle.code.proofs.Shifting.{none-shifted, both-shifted}
+use Rattle.code.proofs.Shifting.{none-shifted, one_shifted, still_register}
 use Rattle.code.proofs.remainder.ShiftRegister.shift.Goals as goal
 
-pub loop-q-init : goal.loop-q-init
-loop-q-init c = none-shifted c.args.self.now.symbols (bit_xor c.args.next (get_or c.args.self.now.symbols 0 0)) 0
+pub loop-p-init : goal.loop-p-init
+loop-p-init c = record { size = c.args.self.now.held.size; shifted = none-shifted _ _ }
 
-pub loop-q-preserved : goal.loop-q-preserved
-loop-q-preserved c =
-    let old = c.args.self.now.symbols in
-    let now = c.loop-q.self.symbols in
-    let new = c.shift_eight.new.self.symbols in
-    let f : ℕ = bit_xor c.args.next (get_or old 0 0) in
-    let b : ℕ = 8 * c.loop-q.q in
-    subst (λ n. Shifted old f 0 n new) (let e : b + 8 ≡ 8 * (c.loop-q.q + 1) = omega arith in e)
-    (both-shifted old now new f b (b + 8) (omega arith) c.loop-q.invariant c.shift_eight.ensures)
+pub product-requires : goal.product-requires
+product-requires c =
+    let next = c.requires in
+    let sum = xor_lt 10 _ _ next (c.args.self.now.held.small 0) in
+    (omega arith, omega arith)
 
-pub returns : goal.returns
-returns c =
-    let old = c.args.self.now.symbols in
-    let f : ℕ = bit_xor c.args.next (get_or old 0 0) in
-    subst (λ n. Shifted old f 0 n c.loop-q.self.symbols) (let e : 8 * c.loop-q.q ≡ 32 = omega arith in e) c.loop-q.invariant
+pub loop-p-preserved : goal.loop-p-preserved
+loop-p-preserved c =
+    let now = c.loop-p.symbols in
+    let p = c.loop-p.p in
+    let y : ℕ = bit_xor (get_or now (p + 1) 0) c.product.result in
+    record {
+      size = length-set now p y ∙ c.loop-p.invariant.size;
+      shifted = one_shifted _ now _ p y c.loop-p.invariant.shifted (omega arith) (ap (bit_xor (get_or now (p + 1) 0)) c.product.ensures);
+    }
 
-pub shift_eight-requires : goal.shift_eight-requires
-shift_eight-requires c = (xor_lt 10 c.args.next (get_or c.args.self.now.symbols 0 0) c.requires (c.args.self.now.held.small 0), omega arith)
+pub invariant_of-self : goal.invariant_of-self
+invariant_of-self c =
+    let next = c.requires in
+    let sum = xor_lt 10 _ _ next (c.args.self.now.held.small 0) in
+    record { held = still_register _ _ _ _ (omega arith) c.args.self.now.held c.loop-p.invariant.size c.loop-p.invariant.shifted }

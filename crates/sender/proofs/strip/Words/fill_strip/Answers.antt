@@ -5,21 +5,21 @@ use Rattle.sender.specs.Packing.{word_of}
 use Rattle.sender.proofs.Packs.{parts_whole, strip_step}
 use Rattle.sender.proofs.strip.Words.fill_strip.Goals as goal
 
-pub loop-lane-init : goal.loop-lane-init
+pub loop-number-init : goal.loop-number-init
 unfolding strip_octets
-loop-lane-init g c = ap (λ (n : ℕ). drop n c.args.strip.now) (sym (zero-mul (1360 / g.R.Rate.LANES)))
+loop-number-init g c = ap (λ (n : ℕ). drop n c.args.strip.now) (sym (zero-mul (1360 / g.R.Rate.LANES)))
 
-pub loop-lane-preserved : goal.loop-lane-preserved
-loop-lane-preserved g c =
-    let lane : ℕ = c.loop-lane.lane in
-    let strip : List ℕ = c.loop-lane.strip in
-    let part : List ℕ = c.fill_lane.new.part in
+pub loop-number-preserved : goal.loop-number-preserved
+loop-number-preserved g c =
+    let lane : ℕ = c.loop-number.number in
+    let strip : List ℕ = c.loop-number.strip in
+    let part : List ℕ = c.fill.new.part in
     ap (λ (n : ℕ). put_mid (lane * (1360 / n)) (lane * (1360 / n) + 1360 / n - lane * (1360 / n)) strip part) c.LANES-size.ensures
-    ∙ strip_step g.R.Rate.LANES (word_of c.args.self.now.words 0) (word_of c.args.self.now.words 1) lane c.args.strip.now strip part c.fill_lane.ensures c.loop-lane.invariant
+    ∙ strip_step g.R.Rate.LANES (word_of c.args.self.now.words 0) (word_of c.args.self.now.words 1) lane c.args.strip.now strip part c.fill.ensures c.loop-number.invariant
 
 pub returns : goal.returns
 returns g c =
     let lanes : ℕ = g.R.Rate.LANES in
-    let n : c.loop-lane.lane ≡ lanes = omega (arith, c.LANES-lane-end.ensures) in
-    c.loop-lane.invariant
+    let n : c.loop-number.number ≡ lanes = omega (arith, c.LANES-number-end.ensures) in
+    c.loop-number.invariant
     ∙ ap₂ (λ (l k : ℕ). strip_octets lanes (word_of c.args.self.now.words 0) (word_of c.args.self.now.words 1) l ++ drop k c.args.strip.now) n (ap (λ (l : ℕ). l * (1360 / lanes)) n ∙ parts_whole lanes g.met.R.Rate.lawful.width)
