@@ -23,6 +23,11 @@ mapped h (e ∷ xs) ys n made long tells = same_lists ys (map h (e ∷ xs)) (mad
     let m = made.at k e d (omega (arith, made.long)) in
     tells m.0 m.1 (get_or (e ∷ xs) k e) (get_or ys k d) m.2 ∙ sym (get_or-map h (e ∷ xs) k e d i))
 
+-- and where what was mapped is a list that is known
+pub mapped_of : {F A B : Type 0} {g : Mut F (A × Unit {0}) B} {f : F} (h : A → B) (qs xs : List A) (ys : List B) (n : ℕ) → IsMapOf g f qs ys n → length qs ≡ n →
+    ((p q : F) (x : A) (y : B) → Called g p (x, tt {0}) y q → y ≡ h x) → qs ≡ xs → ys ≡ map h xs
+mapped_of h qs xs ys n made long tells e = mapped h qs ys n made long tells ∙ ap (map h) e
+
 pub chunk_at : {X : Type 0} (n k : ℕ) (xs : List X) (i : ℕ) → i < k → get_or (first_chunks n k xs) i [] ≡ take n (drop (n * i) xs)
 chunk_at n zero xs i l = absurd (omega arith)
 chunk_at n (suc k) xs zero l = let z : n * 0 ≡ 0 = omega arith in rw z

@@ -37,7 +37,7 @@ none_below f (suc n) h i l = split (lowest f n) (f n) (λ p. none_below f n p i)
       | inr m ↦ let s : i ≡ n = omega arith in ap f s ∙ q
     ]
 
-lowest_none : (f : ℕ → Bool) (n : ℕ) → ((i : ℕ) → i < n → f i ≡ false) → lowest f n ≡ None
+pub lowest_none : (f : ℕ → Bool) (n : ℕ) → ((i : ℕ) → i < n → f i ≡ false) → lowest f n ≡ None
 unfolding lowest
 lowest_none f zero h = refl
 lowest_none f (suc n) h = rw (lowest_none f n (λ i l. h i (omega arith)), h n (omega arith))

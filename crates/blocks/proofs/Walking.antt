@@ -1,6 +1,6 @@
 -- Steps of a reader, and that a walk visits every record.
-use Rattle.std.proofs.Common.{◌≡◌, ℕ, zero, suc, ◌+◌, ◌-◌, ◌<◌, ◌≤◌, true, false, leb, List, [], ◌∷◌, ◌++◌, length, take, drop, Some, None, Ok, Err, sym, refl, ap, ◌∙◌, append_assoc, append-nil, add-one, arith, length-append}
-use Rattle.std.proofs.lemmas.List.{take_rest, take_at, drop_at}
+use Rattle.std.proofs.Common.{◌≡◌, ℕ, zero, suc, ◌+◌, ◌<◌, ◌≤◌, true, false, leb, List, [], ◌∷◌, ◌++◌, length, take, drop, Some, None, Ok, Err, sym, refl, ap, ◌∙◌, append_assoc, append-nil, add-one, arith, length-append}
+use Rattle.std.proofs.lemmas.List.{take_at, drop_at}
 use Rattle.std.proofs.lemmas.Bool.{le-leb, lt-leb}
 use Rattle.blocks.specs.declared.refusal.Refusal.TheVariants.{Length, Kind}
 use Rattle.blocks.specs.declared.block.Header.TheVariants.{Zeros, Control, Data, Ones}
@@ -13,34 +13,36 @@ pub at_end : (s : List ℕ) (n : ℕ) → rest_at s n ≡ [] → look n (rest_at
 unfolding look
 at_end s n e = ap (look n) e
 
--- record n begins with the kind k
-module _ (s : List ℕ) (n k : ℕ) (rest : List ℕ) (front : rest_at s n ≡ k ∷ rest) where
-  pub unknown : known k ≡ false → look n (rest_at s n) ≡ Err (Kind n)
-  unfolding look
-  unknown e = ap (look n) front ∙ rw e refl
+-- record n begins with a byte that no kind has
+pub unknown : (s : List ℕ) (n k : ℕ) (rest : List ℕ) → rest_at s n ≡ k ∷ rest → known k ≡ false → look n (rest_at s n) ≡ Err (Kind n)
+unfolding look
+unknown s n k rest front e = ap (look n) front ∙ rw e refl
 
-  pub cut_short : known k ≡ true → length rest < size_of k → look n (rest_at s n) ≡ Err Length
-  unfolding look
-  cut_short e h = let l : leb (size_of k) (length rest) ≡ false = lt-leb _ _ h in ap (look n) front ∙ rw (e, l) refl
+kind_known : (kind : RecordKind) → known (kind_byte kind) ≡ true
+kind_known (Block Zeros) = refl
+kind_known (Block Control) = refl
+kind_known (Block Data) = refl
+kind_known (Block Ones) = refl
+kind_known Note = refl
 
-  pub stands : known k ≡ true → size_of k ≤ length rest → look n (rest_at s n) ≡ Ok (Some (n, item_of k (take (size_of k) rest)))
-  unfolding look
-  stands e h = let l : leb (size_of k) (length rest) ≡ true = le-leb _ _ h in ap (look n) front ∙ rw (e, l) refl
+-- what is left after n records begins with the byte k of a kind, whose body has that size
+module _ (s left : List ℕ) (n k : ℕ) (rest : List ℕ) (kind : RecordKind) (size : ℕ) (placed : left ≡ rest_at s n) (begins : left ≡ k ∷ rest) (byte : kind_byte kind ≡ k) (sized : size ≡ size_of (kind_byte kind)) where
+  front : rest_at s n ≡ kind_byte kind ∷ rest
+  front = sym placed ∙ begins ∙ ap (λ (b : ℕ). b ∷ rest) (sym byte)
 
-  pub goes_on : drop (size_of k) rest ≡ rest_at s (n + 1)
+  pub cut_short : length rest < size → look n (rest_at s n) ≡ Err Length
+  unfolding look
+  cut_short h = let l : leb (size_of (kind_byte kind)) (length rest) ≡ false = rw (← sized) (lt-leb _ _ h) in ap (look n) front ∙ rw (kind_known kind, l) refl
+
+  pub stands : size ≤ length rest → look n (rest_at s n) ≡ Ok (Some (n, item_of (kind_byte kind) (take size rest)))
+  unfolding look
+  stands h =
+      let l : leb (size_of (kind_byte kind)) (length rest) ≡ true = rw (← sized) (le-leb _ _ h) in
+      ap (look n) front ∙ rw (kind_known kind, l, ← sized) refl
+
+  pub goes_on : drop size rest ≡ rest_at s (n + 1)
   unfolding rest_at
-  goes_on = sym (rw add-one (ap behind front))
-
--- what stands from byte `at` on
-pub front_of : (s : List ℕ) (at n : ℕ) (xs : List ℕ) → drop at s ≡ rest_at s n → take (length s - at) (drop at s) ≡ xs → rest_at s n ≡ xs
-front_of s at n xs placed e = sym placed ∙ sym (take_rest s at) ∙ e
-
-pub kind_known : (k : ℕ) (kind : RecordKind) → kind_byte kind ≡ k → known k ≡ true
-kind_known k (Block Zeros) e = rw (← e)
-kind_known k (Block Control) e = rw (← e)
-kind_known k (Block Data) e = rw (← e)
-kind_known k (Block Ones) e = rw (← e)
-kind_known k Note e = rw (← e)
+  goes_on = ap (λ (j : ℕ). drop j rest) sized ∙ sym (rw add-one (ap behind front))
 
 -- what is left behind n records, from the front
 behind_first : (xs : List ℕ) (n : ℕ) → rest_at xs (suc n) ≡ rest_at (behind xs) n

@@ -1,8 +1,8 @@
 -- Scrambling by words of 64 bits: output y and memory m as one number, the memory's 58 bits lowest.
-use Rattle.std.proofs.Common.{◌≡◌, ℕ, zero, suc, ◌+◌, ◌-◌, ◌*◌, ◌/◌, ◌%◌, ◌^◌, ◌<◌, ◌≤◌, Bool, true, false, List, [], ◌∷◌, sym, refl, ap, ◌∙◌, subst, ap₂, inl, inr, add-zero, add-suc, mul_assoc, mul_comm, add-mul, suc-add, zero-add, div-one, one-add, arith}
-use native.Mathlib.Nat.{mul-mod_left, mul-add-mod_self_right}
+use Rattle.std.proofs.Common.{◌≡◌, ℕ, zero, suc, ◌+◌, ◌-◌, ◌*◌, ◌/◌, ◌%◌, ◌^◌, ◌<◌, ◌≤◌, Bool, true, false, List, [], ◌∷◌, sym, refl, ap, ◌∙◌, subst, ap₂, inl, inr, add-zero, add-suc, mul_assoc, mul_comm, suc-add, zero-add, div-one, one-add, arith}
+use native.Mathlib.Nat.{mul-mod_left}
 use lib.Bits.{bit_xor, xor_assoc, xor_comm, xor_zero_r, xor_shr, xor_mod, xor_shifted, xor_block}
-use Rattle.std.proofs.lemmas.Nat.{shr-shr, pow-add, pow_pos, shl-shr, mod_low, shr_high, div-add-mod'}
+use Rattle.std.proofs.lemmas.Nat.{shr-shr, pow-add, pow_pos, shl-shr, mod_low, shr_high, mul-mod_first}
 use Rattle.std.specs.Int.{reverse_bits_onto}
 use Rattle.std.proofs.lemmas.Bool.{cases_lt}
 use Rattle.blocks.specs.Bits.{bit, field, table, nth}
@@ -71,15 +71,6 @@ back_bit m y i h l =
     ∙ xor_assoc Y (bit_xor a b) (bit_xor d c)
     ∙ ap (bit_xor Y) (medial a b d c ∙ ap₂ bit_xor (sym (history_tap m y i h)) (sym (history_bit m y i h)))
 
-mod_mul_mod : (a b m : ℕ) → a % m * b % m ≡ a * b % m
-mod_mul_mod a b m =
-    let q : ℕ = a / m in
-    let r : ℕ = a % m in
-    let e : a * b ≡ q * b * m + r * b =
-    ap (λ (x : ℕ). x * b) (sym (div-add-mod' a m)) ∙ add-mul (q * m) r b
-    ∙ ap (λ (x : ℕ). x + r * b) (mul_assoc q m b ∙ ap (λ (x : ℕ). q * x) (mul_comm m b) ∙ sym (mul_assoc q b m)) in
-    sym (ap (λ (x : ℕ). x % m) e ∙ mul-add-mod_self_right (q * b) m (r * b))
-
 -- shifting a word, with what leaves it lost
 shifted : ℕ → ℕ → ℕ
 shifted k x = x * 2 ^ k % 2 ^ 64
@@ -96,7 +87,7 @@ shifted_out : (j k x : ℕ) → 64 ≤ j + k → shifted j (shifted k x) ≡ 0
 unfolding shifted
 shifted_out j k x l =
     let e : j + k ≡ (j + k - 64) + 64 = omega arith in
-    mod_mul_mod (x * 2 ^ k) (2 ^ j) (2 ^ 64)
+    mul-mod_first (x * 2 ^ k) (2 ^ j) (2 ^ 64)
     ∙ ap (λ (z : ℕ). z % 2 ^ 64) (mul_assoc x (2 ^ k) (2 ^ j) ∙ ap (λ (z : ℕ). x * z) (mul_comm (2 ^ k) (2 ^ j) ∙ sym (pow-add 2 j k) ∙ ap (λ (z : ℕ). 2 ^ z) e ∙ pow-add 2 (j + k - 64) 64) ∙ sym (mul_assoc x (2 ^ (j + k - 64)) (2 ^ 64)))
     ∙ mul-mod_left (x * 2 ^ (j + k - 64)) (2 ^ 64)
 

@@ -28,13 +28,6 @@ each_of_four P a b c d (suc (suc zero)) l = c
 each_of_four P a b c d (suc (suc (suc zero))) l = d
 each_of_four P a b c d (suc (suc (suc (suc k)))) l = absurd (omega arith)
 
--- an array's `map`, element by element
-pub mapped : {A B : Type 0} (f : A → B) (xs : List A) (ys : List B) (d : A) (e : B) → length ys ≡ length xs → ((k : ℕ) → k < length xs → get_or ys k e ≡ f (get_or xs k d)) → ys ≡ map f xs
-mapped f [] [] d e n g = refl
-mapped f [] (y ∷ ys) d e n g = absurd (omega arith)
-mapped f (x ∷ xs) [] d e n g = absurd (omega arith)
-mapped {A} {B} f (x ∷ xs) (y ∷ ys) d e n g = ap₂ (λ (z : B) (zs : List B). z ∷ zs) (g 0 (omega arith)) (mapped f xs ys d e (omega arith) (λ k l. g (suc k) (omega arith)))
-
 pub headers_map : (bs : List Block) → map (λ (b : Block). b.header) bs ≡ headers bs
 headers_map [] = refl
 headers_map (b ∷ bs) = ap (λ (l : List Header). b.header ∷ l) (headers_map bs)

@@ -48,9 +48,7 @@ pub fn write_group(records: &[u8], group: &mut [u8]) -> Result<(), Refusal>
     ensures answer { result ≡ answered tt (write_refused records.now group.old) }
     ensures group { group.new ≡ written records.now group.old }
 {
-    let Some(octets) = group.as_mut_array::<33>() else {
-        return Err(Refusal::Length);
-    };
+    let octets = group.as_mut_array::<33>().ok_or(Refusal::Length)?;
     *octets = <[u8; 33]>::from(group_of(records)?);
     Ok(())
 }
@@ -63,9 +61,7 @@ pub fn read_group(group: &[u8], records: &mut [u8]) -> Result<(), Refusal>
     ensures law { GroupsReturn }
 {
     let group = group.as_array::<33>().ok_or(Refusal::Length)?;
-    let Some(records) = records.as_mut_array::<36>() else {
-        return Err(Refusal::Length);
-    };
+    let records = records.as_mut_array::<36>().ok_or(Refusal::Length)?;
     let blocks = Group::from(group).blocks();
     records.copy_from_slice(blocks.map(<[u8; 9]>::from).as_flattened());
     Ok(())

@@ -59,7 +59,7 @@ impl<'a> Reader<'a> {
     {
         Reader {
             src,
-            at: 0,
+            rest: src,
             index: 0,
         }
     }
@@ -71,14 +71,15 @@ impl<'a> Reader<'a> {
         ensures source { self.new.src.now ≡ self.old.src.now }
         ensures index { self.new.index ≡ moved (shown result) self.old.index }
     {
-        let src = self.src;
-        let index = self.index;
-        let Some((&kind, rest)) = src[self.at..].split_first() else {
+        let (rest, index) = (self.rest, self.index);
+        let Some((&kind, rest)) = rest.split_first() else {
             return Ok(None);
         };
         let kind = Kind::try_from(kind).map_err(|_| Refusal::Kind(index))?;
-        let body = rest.get(..kind.body_size()).ok_or(Refusal::Length)?;
-        self.at += 1 + body.len();
+        let (body, rest) = rest
+            .split_at_checked(kind.body_size())
+            .ok_or(Refusal::Length)?;
+        self.rest = rest;
         self.index += 1;
         Ok(Some((index, kind.record(body))))
     }

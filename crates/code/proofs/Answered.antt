@@ -1,9 +1,7 @@
 -- The answers of the engines, from what their parts found.
 use Rattle.std.proofs.Common.{◌≡◌, ℕ, ◌≤◌, List, get_or, Ok, Err, sym, refl, ◌∙◌, subst, arith, ext_get_or}
-use Rattle.code.specs.declared.refusal.Refusal.{Refusal}
-use Rattle.code.specs.declared.refusal.Refusal.TheVariants.{Length, Symbol, Reach}
 use Rattle.code.specs.Code.{WellFormed, Codeword, distance}
-use Rattle.code.specs.Answers.{Lowest, Malformed, Repaired, WatchingKeeps}
+use Rattle.code.specs.Answers.{Lowest, Repaired, WatchingKeeps}
 use Rattle.code.proofs.Counting.{count_none, none_counted}
 
 pub not_formed : (w : List ℕ) (i : ℕ) → Lowest w i → WellFormed w → ⊥
@@ -13,11 +11,6 @@ not_formed w i low formed =
     let a = low.large in
     let h = formed.symbols i (omega arith) in
     omega arith
-
-pub malformed_out : (w : List ℕ) (e : Refusal) → Malformed 544 w e → WellFormed w → ⊥
-malformed_out w Length h formed = h formed.size
-malformed_out w (Symbol i) h formed = not_formed w i h.1 formed
-malformed_out w Reach h formed = h
 
 -- a codeword stays
 pub untouched : (reach : ℕ) (w : List ℕ) → Codeword w → Repaired reach w w 0

@@ -38,7 +38,6 @@ impl FullEngine {
         FullEngine {
             places: Places::new(),
             work: Work {
-                syndromes: [zero; ROOTS],
                 rows: [row; 16],
                 values: [zero; SIZE],
                 found: [0; SIZE],
@@ -82,6 +81,7 @@ impl FullEngine {
 fn load(symbols: &[u16; SIZE]) -> [Element; SIZE]
     ensures { Loaded symbols.now 544 result }
 {
+    // By `from_fn` here and in `store`: with `map` a word took up to a tenth longer to correct here, and up to a sixth there.
     array::from_fn(|i| gf1024::from_bits(symbols[i]))
 }
 
@@ -89,7 +89,6 @@ fn load(symbols: &[u16; SIZE]) -> [Element; SIZE]
 fn store(elements: &[Element; SIZE]) -> [u16; SIZE]
     ensures { Stored elements.now 544 result }
 {
-    // By `from_fn`: with `elements.map(..)` a word took up to a sixth longer to correct.
     array::from_fn(
         |i| -> u16
             requires { i < 544 }
@@ -121,8 +120,7 @@ impl Engine for FullEngine {
         let proposal = Word {
             symbols: &corrected,
         };
-        let is_accepted = proposal.has_roots();
-        if !is_accepted {
+        if !proposal.has_roots() {
             return Err(Refusal::Reach);
         }
         let count = count_changes(received.symbols, &corrected);

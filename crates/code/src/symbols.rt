@@ -33,13 +33,12 @@ fn lowest_large(symbols: &[u16]) -> Option<usize>
 
 impl<'a, const N: usize> Symbols<'a, N> {
     // Refuses a slice of another length, or with a symbol above 1,023.
+    // `check`, not `TryFrom`: of an array of N symbols a call asks that it fits in memory, and a conversion can ask nothing.
     pub fn check(symbols: &'a [u16]) -> Result<Symbols<'a, N>, Refusal>
         requires { N ≤ 544 }
         ensures { MatchResult result (λ s. s.symbols.now ≡ symbols.now) (Malformed N symbols.now) }
     {
-        let Ok(whole) = <&[u16; N]>::try_from(symbols) else {
-            return Err(Refusal::Length);
-        };
+        let whole = symbols.as_array::<N>().ok_or(Refusal::Length)?;
         match lowest_large(symbols) {
             Some(i) => Err(Refusal::Symbol(i)),
             None => Ok(Symbols { symbols: whole }),

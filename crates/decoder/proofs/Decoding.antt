@@ -1,5 +1,5 @@
 -- The errors of a word in reach of a codeword are at the roots of the locator.
-use Rattle.std.proofs.Common.{◌≡◌, ℕ, zero, suc, ◌+◌, ◌*◌, ◌<◌, ◌≤◌, ◌≢◌, Bool, true, false, ◌⊎◌, List, [], ◌∷◌, length, get_or, MatchBool, sym, refl, ap, ◌∙◌, subst, inl, inr, ⊎_elim, le_of_suc-le-suc, eq-or-lt_of_le, arith}
+use Rattle.std.proofs.Common.{◌≡◌, ℕ, zero, suc, ◌+◌, ◌-◌, ◌*◌, ◌<◌, ◌≤◌, ◌≢◌, Bool, true, false, ◌⊎◌, List, [], ◌∷◌, length, take, get_or, MatchBool, sym, refl, ap, ◌∙◌, subst, inl, inr, ⊎_elim, le_of_suc-le-suc, eq-or-lt_of_le, arith}
 use Rattle.std.specs.List.{AllWithin, HoldsAt}
 use native.Mathlib.Decide.{ℕ_discrete}
 use Rattle.field.specs.Laws.{Group, Ring, FieldLaws}
@@ -15,6 +15,11 @@ use native.Mathlib.Decide.{dec_lt}
 use Rattle.decoder.specs.Errors.{Found, Subtracted, gaps, error_value}
 use Rattle.decoder.specs.Decoding.{Codeword, Near, Proposal}
 use Rattle.decoder.specs.Words.{word_syndrome}
+use Rattle.decoder.specs.declared.elimination.Row.{Row}
+use Rattle.decoder.specs.Elimination.{Candidate}
+use Rattle.std.proofs.lemmas.List.{get_or-take}
+use Rattle.decoder.proofs.Evaluation.{found_all}
+use Rattle.decoder.proofs.Stages.{row_at_reach}
 use Rattle.decoder.proofs.ErrorValues.{remaining-same, remaining_term, gaps_open}
 
 abbrev Place : (ℕ → ℕ) → ℕ → ℕ → Type 0
@@ -167,6 +172,23 @@ module _ {F : Type 0} (g : Group F) (r : Ring F) (laws : FieldLaws g r) where
 
       pub proposal : Proposal g r xs n reach word out
       proposal = record { near = near; only = the_word }
+
+  -- the row found among the first reach + 1 rows, and the places of its roots
+  module _ (xs s : List F) (row : Row F) (found : List ℕ) (n reach size m : ℕ) (apart : Apart n (λ i. get_or xs i 𝟎)) (rows : size ≡ reach + 1) (room : reach + 1 ≤ length row.coefficients)
+      (candidate : Candidate g r s size (size - 1) row) (listed : Found g r (take (row.degree + 1) row.coefficients) (length (take (row.degree + 1) row.coefficients)) xs n found m) where
+    is : Candidate g r s (reach + 1) reach row
+    is = row_at_reach g r s size reach row rows candidate
+
+    lists : Found g r row.coefficients (reach + 1) xs n found m
+    lists = found_all g r laws row.coefficients row.degree (reach + 1) xs n found m is.monic is.small room listed
+
+    pub few_found : m ≤ reach
+    few_found = few xs row.coefficients found n reach m row.degree apart is.monic is.small lists
+
+    pub proposal_found : (word spots out : List F) → ((k : ℕ) → k < 2 * reach → get_or s k 𝟎 ≡ word_syndrome g r word xs k n)
+        → ((t : ℕ) → t < m → get_or spots t 𝟎 ≡ get_or xs (get_or found t 0) 𝟎) → Subtracted g r word found spots (take m s) m m out → Proposal g r xs n reach word out
+    proposal_found word spots out syn at less =
+        proposal xs row.coefficients found n reach m row.degree apart is.monic is.small lists word s (take m s) syn (λ k h. get_or-take m s k 𝟎 h) is.annihilates spots out at less
 
   -- where the proposal is no codeword, none is near
   pub none_near : (xs : List F) (n reach : ℕ) (word out : List F) → Proposal g r xs n reach word out → (Codeword g r xs n (2 * reach) out → ⊥) → (c : List F) → Codeword g r xs n (2 * reach) c → Near g n reach word c → ⊥

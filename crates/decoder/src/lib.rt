@@ -23,7 +23,6 @@ pub use word::Word;
 // Fixed arrays, since there is no heap: `values` and `found` have room for all places, `located` and `terms` for the reach.
 #[derive(Drop)]
 pub struct Work<F> {
-    pub syndromes: [F; 30],
     pub rows: [Row<F>; 16],
     pub values: [F; 544],
     pub found: [usize; 544],
@@ -47,9 +46,8 @@ impl<F: Field + Copy> Work<F> {
         requires { Decodable F.Adds.group word.now reach out.old }
         ensures { Decoded F.Adds.group F.Field.ring word.now.points.now (length word.now.symbols.now) reach word.now.symbols.now out.new (is_ok result) }
     {
-        syndromes::compute(word, &mut self.syndromes);
-        // A copy, since to propose takes all of the room.
-        let mut s = self.syndromes;
+        let mut s = [F::zero(); 30];
+        syndromes::compute(word, &mut s);
         self.propose(word, &s, reach, out)?;
         let proposal = Word {
             symbols: out,

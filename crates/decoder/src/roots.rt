@@ -13,6 +13,7 @@ pub fn evaluate<F: Field + Copy>(v: &[F], points: &[F], values: &mut [F])
     ensures { Values F.Adds.group F.Field.ring (falling F.Adds.group v.now (length v.now)) (length v.now) points.now (length points.now) values.new }
 {
     clear(values);
+    // All values coefficient by coefficient: in a sketch in C one value after another took 1.5 times as long for 16 coefficients.
     for c in v.iter().rev() {
         // By index: a zip over `values.iter_mut()` says nothing of what is written.
         for (i, x) in points.iter().enumerate() {

@@ -7,6 +7,8 @@ use blocks::{BadHeader, Descrambler, Group, Reader, Record, Refusal, Scrambler};
 use std::alloc::Global;
 use std::io::{BufRead, BufReader};
 
+// How many cases were tried, and of how many the answer was the expected one. The program code_cases has one too: a
+// crate for these lines alone would be no plainer.
 #[derive(Clone, Copy)]
 struct Count {
     tried: u64,
@@ -22,7 +24,8 @@ impl Count {
     }
 }
 
-// A digit of an octet; any other character, which the library would refuse, counts as 0.
+// A digit of an octet; any other character counts as 0. The library's `to_digit` takes capitals too, and `hex::decode` would
+// end the program. The program code_cases has one too, for symbols.
 fn digit(c: u8) -> u8 {
     match c {
         b'0'..=b'9' => c - b'0',
@@ -31,7 +34,7 @@ fn digit(c: u8) -> u8 {
     }
 }
 
-// The octets of a text of hexadecimal digits; `-` stands for none.
+// The octets of a text of hexadecimal digits, by `digit`, so that any text has some; `-` stands for none.
 fn octets(heap: Global, text: &str) -> anyhow::Result<Vec<u8>> {
     let (pairs, _) = text.as_bytes().as_chunks::<2>();
     let mut out = Vec::new(heap);

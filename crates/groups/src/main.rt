@@ -33,7 +33,7 @@ fn placed(refusal: Refusal, before: usize) -> Refusal {
 // Prints the groups of the input. A refusal is printed behind the groups before it, and ends the program.
 fn print_groups(heap: Global, input: &mut impl Read, out: &mut impl Write) -> anyhow::Result<()> {
     let mut records = Vec::with_capacity(heap, RECORDS)?;
-    for groups in 0..usize::MAX {
+    for groups in 0usize.. {
         records.clear();
         let n = input
             .by_ref()

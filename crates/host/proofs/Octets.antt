@@ -1,13 +1,13 @@
 -- Symbols in octets.
-use Rattle.std.proofs.Common.{◌≡◌, ℕ, zero, suc, ◌+◌, ◌*◌, ◌/◌, ◌%◌, ◌^◌, ◌<◌, true, eqb, List, [], ◌∷◌, map, length, drop, get_or, ap, ◌∙◌, ap₂, add-zero, inl, inr, arith}
-use Rattle.std.proofs.lemmas.List.{ext_get_or, get_or-drop}
-use Rattle.std.proofs.lemmas.Grind.{common_steps}
+use Rattle.std.proofs.Common.{◌≡◌, ℕ, zero, suc, ◌+◌, ◌*◌, ◌/◌, ◌%◌, ◌^◌, ◌<◌, true, eqb, List, [], ◌∷◌, map, length, drop, get_or, sym, ap, ◌∙◌, ap₂, add-zero, inl, inr, arith}
+use Rattle.std.proofs.lemmas.List.{ext_get_or, get_or-take, get_or-drop, get_or-map, length-map}
 use Rattle.std.specs.Int.{to_le_bytes}
 use Rattle.std.specs.List.{flat_map}
 use Rattle.std.specs.Simd.{first_chunks}
 use mir.Syntax.{w16}
 use Rattle.std.proofs.lemmas.Bool.{eq-eqb, eqb-true, cases_Bool}
 use Rattle.blocks.specs.Bits.{table}
+use Rattle.blocks.proofs.Arrays.{chunk_at}
 use Rattle.blocks.proofs.Scrambles.{length-table, nth-table}
 use Rattle.host.specs.Crossing.{symbol_at, symbols_in}
 
@@ -27,9 +27,7 @@ crossed xs symbols h e =
     let m : k < n = rw (length-table n (symbol_at xs)) at l in nth-table n (symbol_at xs) k m ∙ e k m)
 
 pair_at : (xs : List ℕ) (n k j : ℕ) → k < n → j < 2 → get_or (get_or (first_chunks 2 n xs) k []) j 0 ≡ get_or xs (2 * k + j) 0
-pair_at xs zero k j h l = absurd (omega arith)
-pair_at xs (suc n) zero j h l = grind (arith, common_steps)
-pair_at xs (suc n) (suc k) j h l = pair_at (drop 2 xs) n k j (omega arith) l ∙ get_or-drop 2 xs (2 * k + j) 0 ∙ ap (λ (i : ℕ). get_or xs i 0) (omega arith)
+pair_at xs n k j h l = rw (chunk_at 2 n xs k h) (get_or-take 2 (drop (2 * k) xs) j 0 l ∙ get_or-drop (2 * k) xs j 0)
 
 -- the number of two octets
 abbrev pub low_first : List ℕ → ℕ
@@ -49,6 +47,11 @@ octets_of xs n p h = elim (cases_Bool (eqb (length xs % 2) 0)) [
 
 pub symbols_of : (xs : List ℕ) (n : ℕ) → length xs ≡ 2 * n → length (symbols_in xs) ≡ n
 symbols_of xs n h = ap length (symbols_table xs n h) ∙ length-table n (symbol_at xs)
+
+-- pairs of octets, one for each symbol
+pub pairs_of : (xs : List ℕ) (ps : List (List ℕ)) → length ps ≡ length xs → ((k : ℕ) → k < length xs → get_or ps k [] ≡ to_le_bytes w16 (get_or xs k 0)) → ps ≡ map (to_le_bytes w16) xs
+pairs_of xs ps n h = ext_get_or [] ps (map (to_le_bytes w16) xs) (n ∙ sym (length-map xs (to_le_bytes w16))) (λ k l.
+    h k (omega arith) ∙ sym (get_or-map (to_le_bytes w16) xs k 0 [] (omega arith)))
 
 -- symbols stored one after another
 pub stored : (xs : List ℕ) → ((k : ℕ) → get_or xs k 0 < 2 ^ 16) → (k : ℕ) → k < length xs → symbol_at (flat_map (λ l. l) (map (to_le_bytes w16) xs)) k ≡ get_or xs k 0

@@ -1,5 +1,7 @@
 // Symbols of two octets each, the low octet first.
-ghost use Rattle.std.specs.Prelude.{◌≡◌, ◌*◌, length};
+ghost use Rattle.std.specs.Prelude.{◌≡◌, ◌*◌, ◌<◌, length, slice_index};
+ghost use Rattle.std.specs.Int.{to_le_bytes};
+ghost use mir.Syntax.{w16};
 ghost use Rattle.host.specs.Crossing.{symbols_in};
 
 use std::array;
@@ -16,5 +18,12 @@ pub fn store(symbols: &[u16; 544], octets: &mut [u8])
     requires { length octets.old ≡ 1088 }
     ensures { symbols_in octets.new ≡ symbols.now }
 {
-    octets.copy_from_slice(symbols.map(u16::to_le_bytes).as_flattened());
+    // By `from_fn`: with `symbols.map(u16::to_le_bytes)` a word took a third longer to encode.
+    let pairs: [[u8; 2]; 544] = array::from_fn(
+        |i| -> [u8; 2]
+            requires { i < 544 }
+            ensures { result ≡ to_le_bytes w16 (slice_index symbols.entry.now i) }
+        { symbols[i].to_le_bytes() },
+    );
+    octets.copy_from_slice(pairs.as_flattened());
 }

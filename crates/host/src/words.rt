@@ -13,7 +13,7 @@ const MESSAGE: usize = 1028;
 
 const WORD: usize = 1088;
 
-// The number and the place of a refusal.
+// The number and the place of a refusal. The groups have one too, for their own type: a trait with two impls is longer.
 fn crossed(e: Refusal) -> (u32, usize)
     ensures number { result.0 ≡ number_of e }
     ensures place { result.1 ≡ place_of e }

@@ -1,30 +1,25 @@
 -- The lane that passes, and that it is the only one.
-use Rattle.std.proofs.Common.{◌≡◌, ℕ, zero, suc, ◌<◌, ◌≤◌, Bool, true, false, ◌&&◌, ltb, leb, Option, Some, None, sym, refl, ap, rules, arith}
+use Rattle.std.proofs.Common.{◌≡◌, ℕ, ◌<◌, ◌≤◌, Bool, true, false, ◌&&◌, ltb, leb, Option, Some, None, sym, refl, ap, rules, arith}
 use Rattle.std.specs.Prelude.{MatchOption}
 use Rattle.std.proofs.lemmas.Grind.{common_steps}
 use Rattle.std.proofs.lemmas.Bool.{lt-ltb, le-ltb, ltb-true, and_parts}
 use Rattle.blocks.specs.Bits.{nth}
 use Rattle.blocks.specs.Calls.{lowest}
-use Rattle.blocks.proofs.Lowest.{lowest-found}
+use Rattle.blocks.proofs.Lowest.{lowest-found, lowest_none}
 use Rattle.lanes.specs.Markers.{marker_at, octets_number, nibble, wrong, shared, own, near, passes}
 use Rattle.lanes.specs.Rates.{Lawful}
 use Rattle.lanes.proofs.Numbers.{own_by_number, shared_by_form, sent_near}
 use Rattle.lanes.proofs.Distance.{at_most_one}
 
-pub lowest-none : (f : ℕ → Bool) (n : ℕ) → ((i : ℕ) → i < n → f i ≡ false) → lowest f n ≡ None
-unfolding lowest
-lowest-none f zero h = refl
-lowest-none f (suc n) h = rw (lowest-none f n (λ i l. h i (omega arith)), h n (omega arith)) refl
-
 -- what a search from 0 on answers
 pub lowest_first : (f : ℕ → Bool) (n : ℕ) (r : Option ℕ) →
     MatchOption r ((k : ℕ) → 0 ≤ k → k < n → f k ≡ false) (λ i. (0 ≤ i) × (i < n) × (f i ≡ true) × ((k : ℕ) → 0 ≤ k → k < i → f k ≡ false)) →
     r ≡ lowest f n
-lowest_first f n None h = sym (lowest-none f n (λ i l. h i (omega arith) l))
-lowest_first f n (Some i) h = sym (lowest-found f i n h.1 (lowest-none f i (λ k l. h.3 k (omega arith) l)) h.2)
+lowest_first f n None h = sym (lowest_none f n (λ i l. h i (omega arith) l))
+lowest_first f n (Some i) h = sym (lowest-found f i n h.1 (lowest_none f i (λ k l. h.3 k (omega arith) l)) h.2)
 
 lowest_only : (f : ℕ → Bool) (n l : ℕ) → l < n → f l ≡ true → ((k : ℕ) → f k ≡ true → k ≡ l) → lowest f n ≡ Some l
-lowest_only f n l h e only = lowest-found f l n h (lowest-none f l (λ i b. grind (arith, common_steps, only i))) e
+lowest_only f n l h e only = lowest-found f l n h (lowest_none f l (λ i b. grind (arith, common_steps, only i))) e
 
 module _ {lanes pairs : ℕ} {octet : ℕ → ℕ → ℕ} (lawful : Lawful lanes pairs octet) (window : ℕ) where
   -- in the octets that all markers share, all are as near

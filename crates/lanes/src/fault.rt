@@ -22,7 +22,7 @@ impl Cause {
         LAYER
     }
 
-    // Its number among the causes of its layer.
+    // Its number among the causes of its layer. By name, not as a conversion: a u8 alone could be the layer as well.
     pub fn number(self) -> u8
         ensures { result ≡ number_of self }
     {

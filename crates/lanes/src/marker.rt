@@ -14,7 +14,7 @@ enum Part {
 }
 
 impl Part {
-    // The lowest bit of each nibble of its octets.
+    // The lowest bit of each nibble of its octets. By name, not as a conversion: it is a mask of the part, not the part.
     fn nibbles(self) -> u128
         ensures { result ≡ lowest_bits (octets_of self) }
     {

@@ -79,7 +79,8 @@ impl Rate for Rate400 {
     }
 }
 
-// Short periods, for tests; the markers of 200. With the pairs as a const parameter, unlawful periods would be rates too.
+// Short periods, for tests; the markers of 200. The pairs are no const parameter: the law does not hold for every number of
+// them, so that the impl would be refused.
 pub struct RateShort;
 
 impl Rate for RateShort {

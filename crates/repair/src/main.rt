@@ -43,10 +43,9 @@ fn report(rt: &HostRuntime, answer: Result<usize, Refusal>, restored: bool) -> a
 }
 
 fn main(rt: HostRuntime) -> anyhow::Result<()> {
-    let mut count = 15usize;
-    for text in env::args(&rt)?.skip(1) {
-        count = text.as_str().parse()?;
-    }
+    let count = env::args(&rt)?
+        .skip(1)
+        .try_fold(15usize, |_, text| text.as_str().parse())?;
     let mut sequence = Sequence { seed: 1 };
     let mut message = [0u16; 514];
     message.fill_with(|| sequence.symbol());

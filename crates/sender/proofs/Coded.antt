@@ -42,15 +42,23 @@ length_tens : (n : ℕ) (bits : List ℕ) → length (first_chunks 10 n bits) �
 length_tens zero bits = refl
 length_tens (suc n) bits = ap suc (length_tens n (drop 10 bits))
 
-module _ (bits : List ℕ) (tens : List (List ℕ)) where
-  pub tens_binary : (n : ℕ) → Bits bits → tens ≡ first_chunks 10 n bits → AllBits tens
-  tens_binary n b e k = elim (cases_lt k n) [
-    | inl h ↦ subst (λ (ts : List (List ℕ)). Bits (get_or ts k [])) (sym e) (subst Bits (sym (chunk_at 10 n bits k h)) (binary_take 10 (drop (10 * k) bits) (binary_drop (10 * k) bits b)))
-    | inr h ↦ subst (λ (ts : List (List ℕ)). Bits (get_or ts k [])) (sym e) (subst Bits (sym (get_or_past (first_chunks 10 n bits) k [] (rw (length_tens n bits) h))) binary_none)
-  ]
+-- the tens of a whole message, and every second of their symbols
+module _ (bits view : List ℕ) (tens : List (List ℕ)) (seen : bits ≡ view) (size : length view ≡ 10280) (made : tens ≡ first_chunks 10 (length bits / 10) bits) where
+  count : length bits / 10 ≡ 1028
+  count = ap (λ (n : ℕ). n / 10) (ap length seen ∙ size)
 
-  pub tens_symbols : (first : ℕ) → length bits ≡ 10280 → tens ≡ first_chunks 10 (length bits / 10) bits → first < 2 → table 514 (every_second tens first) ≡ table 514 (word_symbol bits first)
+  tens_binary : Bits bits → AllBits tens
+  tens_binary b k = subst (λ (ts : List (List ℕ)). Bits (get_or ts k [])) (sym made) (elim (cases_lt k (length bits / 10)) [
+    | inl h ↦ subst Bits (sym (chunk_at 10 (length bits / 10) bits k h)) (binary_take 10 (drop (10 * k) bits) (binary_drop (10 * k) bits b))
+    | inr h ↦ subst Bits (sym (get_or_past (first_chunks 10 (length bits / 10) bits) k [] (rw (length_tens (length bits / 10) bits) h))) binary_none
+  ])
+
+  pub tens_asked : Bits bits → (first : ℕ) → first < 2 → AllBits tens × ((length tens ≡ 1028) × (first < 2))
+  tens_asked b first h = (tens_binary b, (ap length made ∙ length_tens (length bits / 10) bits ∙ count, h))
+
+  pub tens_symbols : (first : ℕ) → first < 2 → table 514 (every_second tens first) ≡ table 514 (word_symbol view first)
   unfolding symbol_in
-  tens_symbols first n e f =
-      table_same 514 (every_second tens first) (word_symbol bits first) (λ x h.
-      ap (λ (ts : List (List ℕ)). number (get_or ts (2 * x + first) [])) e ∙ ap number (chunk_at 10 (length bits / 10) bits (2 * x + first) (omega arith)))
+  tens_symbols first h =
+      table_same 514 (every_second tens first) (word_symbol bits first) (λ x l.
+      ap (λ (ts : List (List ℕ)). number (get_or ts (2 * x + first) [])) made ∙ ap number (chunk_at 10 (length bits / 10) bits (2 * x + first) (omega (arith, count))))
+      ∙ ap (λ (bs : List ℕ). table 514 (word_symbol bs first)) seen

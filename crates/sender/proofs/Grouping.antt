@@ -14,9 +14,8 @@ use Rattle.blocks.specs.declared.memory.Sent.{Sent}
 use Rattle.blocks.specs.declared.block.Block.{Block}
 use Rattle.blocks.specs.declared.group.Group.{Group}
 use Rattle.blocks.specs.declared.refusal.Refusal.{Refusal}
-use Rattle.blocks.proofs.Lowest.{none_below}
+use Rattle.blocks.proofs.Lowest.{none_below, lowest_none}
 use Rattle.blocks.proofs.Scrambles.{table_same, nth-table, scrambled-append, after-append}
-use Rattle.lanes.proofs.Lanes.{lowest-none}
 use Rattle.sender.specs.Messages.{group_at, group_stream}
 use Rattle.sender.proofs.Streams.{blocks_append}
 
@@ -42,19 +41,21 @@ module _ (records : List ℕ) (g : ℕ) (room : 36 * g + 36 ≤ length records) 
   no_bad_kind h =
       let n : begun (take 36 rest) ≡ 4 = ap (λ (k : ℕ). (k + 8) / 9) four_long in
       let none : lowest (kind_above_3 (take 36 rest)) (begun (take 36 rest)) ≡ None =
-      ap (lowest (kind_above_3 (take 36 rest))) n ∙ lowest-none (kind_above_3 (take 36 rest)) 4 (λ i l. same_kind i l ∙ none_below (kind_above_3 records) (begun records) h (4 * g + i) (omega arith)) in
+      ap (lowest (kind_above_3 (take 36 rest))) n ∙ lowest_none (kind_above_3 (take 36 rest)) 4 (λ i l. same_kind i l ∙ none_below (kind_above_3 records) (begun records) h (4 * g + i) (omega arith)) in
       rw (eq-eqb (length (take 36 rest)) 36 four_long, none) refl
 
 -- the next 36 bytes, behind those of g groups
-module _ (records rest four behind : List ℕ) (g : ℕ) (known : rest ≡ drop (36 * g) records) (inside : 36 * g ≤ length records) (split : rest ≡ four ++ behind) (size : length four ≡ 36) where
-  pub four_room : 36 * g + 36 ≤ length records
-  four_room = omega (arith, ap length known, length-drop (36 * g) records, ap length split, length-append four behind)
-
+pub record Next (records four behind : List ℕ) (g : ℕ) : Type 0 where
+  pub room : 36 * g + 36 ≤ length records
   pub four_is : four ≡ take 36 (drop (36 * g) records)
-  four_is = sym (ap (take 36) (sym known ∙ split) ∙ take_at four behind 36 size)
-
   pub behind_is : behind ≡ drop (36 * (g + 1)) records
-  behind_is = sym (ap (λ (k : ℕ). drop k records) (omega arith) ∙ sym (drop-drop 36 (36 * g) records) ∙ ap (drop 36) (sym known ∙ split) ∙ drop_at four behind 36 size)
+
+pub next : {records rest four behind : List ℕ} {g : ℕ} → rest ≡ drop (36 * g) records → 36 * g ≤ length records → rest ≡ four ++ behind → length four ≡ 36 → Next records four behind g
+next {records} {rest} {four} {behind} {g} known inside split size = record {
+  room = omega (arith, ap length known, length-drop (36 * g) records, ap length split, length-append four behind);
+  four_is = sym (ap (take 36) (sym known ∙ split) ∙ take_at four behind 36 size);
+  behind_is = sym (ap (λ (k : ℕ). drop k records) (omega arith) ∙ sym (drop-drop 36 (36 * g) records) ∙ ap (drop 36) (sym known ∙ split) ∙ drop_at four behind 36 size);
+}
 
 -- what the group of 36 bytes is
 pub grouped_ok : (xs : List ℕ) (r : Result Group Refusal) → Grouped xs r → four_refused xs ≡ None → IsOk r

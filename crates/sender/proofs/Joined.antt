@@ -1,7 +1,7 @@
 -- The strips of a sender's accepted sends are those of the sends joined.
-use Rattle.std.proofs.Common.{◌≡◌, ℕ, zero, suc, ◌+◌, ◌-◌, ◌*◌, ◌%◌, ◌≤◌, Bool, true, false, cond, eqb, ltb, List, [], ◌∷◌, ◌++◌, length, take, drop, is_some, sym, refl, ap, ◌∙◌, ap₂, inl, inr, append_assoc, add-zero, add-suc, mul-zero, zero-add, mul-one, mul-add, add-one, arith, length-append}
+use Rattle.std.proofs.Common.{◌≡◌, ℕ, zero, suc, ◌+◌, ◌-◌, ◌*◌, ◌%◌, ◌≤◌, Bool, true, false, cond, List, [], ◌∷◌, ◌++◌, length, take, drop, is_some, sym, refl, ap, ◌∙◌, ap₂, inl, inr, append_assoc, add-zero, add-suc, mul-zero, zero-add, mul-one, mul-add, add-one, arith, length-append}
 use native.Mathlib.Nat.{zero-mod, mod-add-mod}
-use Rattle.std.proofs.lemmas.Bool.{cases_Bool, eqb-true}
+use Rattle.std.proofs.lemmas.Bool.{cases_Bool}
 use Rattle.blocks.specs.Bits.{field, table, nth}
 use Rattle.blocks.specs.Blocks.{blocks_in}
 use Rattle.blocks.specs.Groups.{one_if}
@@ -15,18 +15,8 @@ use Rattle.lanes.specs.Pads.{pad_before, pad_bit}
 use Rattle.sender.specs.Strips.{strip_of}
 use Rattle.sender.specs.Joins.{Send, Start, opens_at, groups_at, groups_before, markers_before, accepted, joined, pairs_sent, sent_blocks, whole_stream, message_at, strips_from, strips_at, SendsJoin}
 use Rattle.sender.proofs.Messaged.{symbols_all}
+use Rattle.sender.proofs.Refused.{not_refused}
 use Rattle.sender.proofs.Streams.{length_blocks, blocks_append, length_stream, stream_append, scrambled_part, pad_behind}
-
--- an accepted send has the records of its groups
-sent_count : (groups room : ℕ) (records : List ℕ) → is_some (send_refused groups records room) ≡ false → length records ≡ 36 * groups
-unfolding send_refused
-sent_count groups room records h = elim (cases_Bool (ltb room 1360)) [
-  | inl e ↦ let k = rw e at h in let z : ◌≡◌ {A = ℕ} 0 1 = cc in absurd (omega arith)
-  | inr e ↦ elim (cases_Bool (eqb (length records) (36 * groups))) [
-    | inl f ↦ eqb-true _ _ f
-    | inr f ↦ let k = rw (e, f) at h in let z : ◌≡◌ {A = ℕ} 0 1 = cc in absurd (omega arith)
-  ]
-]
 
 -- the bits of n groups of records
 abbrev records_stream : List ℕ → ℕ → List ℕ
@@ -135,7 +125,7 @@ joins lanes pairs octet st (c ∷ cs) p xs zs n d z m = elim (cases_Bool (is_som
   | inr e ↦
       let ys : List ℕ = c.records in
       let rest : List (List ℕ) = accepted lanes pairs (suc p) cs in
-      let k : length ys ≡ 36 * groups_at lanes pairs p = sent_count (groups_at lanes pairs p) c.room ys e in
+      let k : length ys ≡ 36 * groups_at lanes pairs p = (not_refused (groups_at lanes pairs p) ys c.room e).count in
       let y : zs ≡ (xs ++ ys) ++ joined rest = (rw e at z) ∙ sym (append_assoc xs ys (joined rest)) in
       let next : p + suc (length rest) ≡ suc p + length rest = omega arith in
       let s : n ≡ groups_before lanes pairs (suc p + length rest) = (rw e at m) ∙ ap (groups_before lanes pairs) next in

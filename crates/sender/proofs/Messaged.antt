@@ -1,24 +1,38 @@
 -- Bits put one after another, and symbols out of them.
-use Rattle.std.proofs.Common.{◌≡◌, ℕ, zero, suc, ◌+◌, ◌-◌, ◌*◌, ◌<◌, ◌≤◌, List, [], ◌∷◌, ◌++◌, length, get_or, take, drop, sym, refl, ap, ◌∙◌, subst, ap₂, append_assoc, append-nil, arith, length-append, length-drop}
+use Rattle.std.proofs.Common.{◌≡◌, ℕ, zero, suc, ◌+◌, ◌-◌, ◌*◌, ◌%◌, ◌^◌, ◌<◌, ◌≤◌, List, [], ◌∷◌, ◌++◌, bit_or, fold, length, get_or, reverse, take, drop, sym, refl, ap, ◌∙◌, subst, ap₂, append_assoc, append-nil, zero-add, arith, pow_mono, length-append, length-drop}
 use borrow.Rule.Slice.PartMut.{put_mid, mid_of}
-use Rattle.std.proofs.lemmas.List.{ext_get_or, drop_more, take_all, take_at, length-take-le}
-use Rattle.std.specs.Array.{IsFromFnResultFrom, IsFromFnResult}
+use Rattle.std.proofs.lemmas.Grind.{reverse_onto, or_after_shift}
+use Rattle.std.proofs.lemmas.List.{ext_get_or, take_at, take_all, length-take-le}
+use Rattle.std.proofs.lemmas.List.Sums.{fold-append}
+use Rattle.std.specs.Array.{IsFromFnResult}
 use Rattle.std.specs.Fn.{Called, Mut}
 use Rattle.blocks.specs.Bits.{field, number, table}
 use Rattle.blocks.specs.Groups.{words}
 use Rattle.blocks.proofs.Bytes.{put_at}
 use Rattle.blocks.proofs.Fields.{length-field}
 use Rattle.blocks.proofs.Scrambles.{length-table, nth-table}
+use Rattle.code.proofs.Turns.{each_call}
+use Rattle.sender.specs.Messages.{Bits}
+use Rattle.sender.proofs.Symbols.{number_small}
 
--- a part put behind n others
-pub part_put : (n m : ℕ) (bits part : List ℕ) → n + m ≤ length bits → length part ≡ m → take (n + m) (put_mid n (n + m - n) bits part) ≡ take n bits ++ part
-part_put n m bits part room e =
-    let size : length (take n bits ++ part) ≡ n + m = length-append (take n bits) part ∙ ap₂ (λ (i j : ℕ). i + j) (length-take-le n bits (omega arith)) e in
-    ap (take (n + m)) (put_at bits part n m ∙ sym (append_assoc (take n bits) part (drop (n + m) bits))) ∙ take_at (take n bits ++ part) (drop (n + m) bits) (n + m) size
+-- the length behind an append
+pub put_length : (old xs : List ℕ) {new : List ℕ} {k : ℕ} → new ≡ old ++ xs → length xs ≡ k → length new ≡ length old + k
+put_length old xs e h = ap length e ∙ length-append old xs ∙ ap (λ (n : ℕ). length old + n) h
 
--- the length of the part of a list from n on
-pub mid_size : (n m : ℕ) (bits : List ℕ) → n + m ≤ length bits → length (mid_of n (n + m - n) bits) ≡ m
-mid_size n m bits room = let e : n + m - n ≡ m = omega arith in ap (λ (k : ℕ). length (mid_of n k bits)) e ∙ length-take-le m (drop n bits) (simp length-drop (omega arith))
+-- the lowest bits of x put behind n others
+pub field_put : (n m x : ℕ) (bits part : List ℕ) → n ≤ length bits → length (take n bits) + m ≤ length bits → part ≡ field x 0 (length (mid_of n (n + m - n) bits)) →
+    (n + m ≤ length bits) × (take (n + m) (put_mid n (n + m - n) bits part) ≡ take n bits ++ field x 0 m)
+field_put n m x bits part h l e =
+    let taken : length (take n bits) ≡ n = length-take-le n bits h in
+    let room : n + m ≤ length bits = omega arith in
+    let front : List ℕ = take n bits ++ field x 0 m in
+    let mid : n + m - n ≡ m = omega arith in
+    let is : part ≡ field x 0 m = e ∙ ap (field x 0) (ap (λ (k : ℕ). length (mid_of n k bits)) mid ∙ length-take-le m (drop n bits) (simp length-drop (omega arith))) in
+    let size : length front ≡ n + m = put_length (take n bits) _ refl (length-field x 0 m) ∙ ap (λ (k : ℕ). k + m) taken in (
+      room,
+      ap (take (n + m)) (put_at bits part n m ∙ ap (λ (ys : List ℕ). take n bits ++ (ys ++ drop (n + m) bits)) is ∙ sym (append_assoc (take n bits) (field x 0 m) (drop (n + m) bits)))
+          ∙ take_at front (drop (n + m) bits) (n + m) size,
+    )
 
 pub length-words : (ps : List ℕ) → length (words ps) ≡ 64 * length ps
 length-words [] = refl
@@ -31,44 +45,25 @@ words_more (p ∷ ps) zero h = append-nil (field p 0 64)
 words_more (p ∷ ps) (suc k) h =
     ap (λ (bs : List ℕ). field p 0 64 ++ bs) (words_more ps k (omega arith)) ∙ sym (append_assoc (field p 0 64) (words (take k ps)) (field (get_or ps k 0) 0 64))
 
--- the first n bits from `at` on as a number
-weighed : ℕ → ℕ → List ℕ → ℕ
-weighed zero at xs = 0
-weighed (suc n) at xs = get_or xs at 0 + 2 * weighed n (at + 1) xs
-
-number_front : (n at : ℕ) (xs : List ℕ) → at + n ≤ length xs → number (take n (drop at xs)) ≡ weighed n at xs
-unfolding weighed number
-number_front zero at xs h = refl
-number_front (suc n) at xs h =
-    let l : at < length xs = omega arith in
-    ap (λ (ys : List ℕ). number (take (suc n) ys)) (drop_more xs at 0 l) ∙ ap (λ (m : ℕ). get_or xs at 0 + 2 * m) (number_front n (at + 1) xs (omega arith))
-
-pub ten_bits : (xs : List ℕ) → length xs ≡ 10 → (low high : ℕ) →
-    low ≡ get_or xs 0 0 + 2 * get_or xs 1 0 + 4 * get_or xs 2 0 + 8 * get_or xs 3 0 + 16 * get_or xs 4 0 →
-    high ≡ get_or xs 5 0 + 2 * get_or xs 6 0 + 4 * get_or xs 7 0 + 8 * get_or xs 8 0 + 16 * get_or xs 9 0 →
-    low + 32 * high ≡ number xs
-unfolding weighed
-ten_bits xs h low high el eh = omega arith ∙ sym (number_front 10 0 xs (omega arith)) ∙ ap number (take_all 10 xs (omega arith))
-
 -- a list by its places
 pub symbols_all : (xs : List ℕ) (f : ℕ → ℕ) (n : ℕ) → length xs ≡ n → ((k : ℕ) → k < n → get_or xs k 0 ≡ f k) → xs ≡ table n f
 symbols_all xs f n e h = ext_get_or 0 xs (table n f) (e ∙ sym (length-table n f)) (λ k l. let m : k < n = omega arith in h k m ∙ sym (nth-table n f k m))
 
--- an array made by a function of the index that keeps what it has
-module _ {F : Type 0} (g : Mut F (ℕ × Unit {0}) ℕ) (f : F) (h : ℕ → ℕ) (gives : (i y : ℕ) (q : F) → Called g f (i, tt) y q → (q ≡ f) × (y ≡ h i)) (ys : List ℕ) where
-  made_from : (n i : ℕ) (p : F) → p ≡ f → IsFromFnResultFrom g p ys i n → (k : ℕ) → k < n → get_or ys (i + k) 0 ≡ h (i + k)
-  made_from zero i p e m k l = absurd (omega arith)
-  made_from (suc n) i p e m zero l =
-      let c : Called g f (i, tt) m.1 m.0 = subst (λ (o : F). Called g o (i, tt) m.1 m.0) e m.3 in
-      let z : i + 0 ≡ i = omega arith in
-      ap (λ (j : ℕ). get_or ys j 0) z ∙ m.2.1 0 ∙ (gives i m.1 m.0 c).1 ∙ sym (ap h z)
-  made_from (suc n) i p e m (suc k) l =
-      let c : Called g f (i, tt) m.1 m.0 = subst (λ (o : F). Called g o (i, tt) m.1 m.0) e m.3 in
-      let z : i + suc k ≡ i + 1 + k = omega arith in
-      ap (λ (j : ℕ). get_or ys j 0) z ∙ made_from n (i + 1) m.0 (gives i m.1 m.0 c).0 m.4 k (omega arith) ∙ sym (ap h z)
+-- one bit more below those that are in
+abbrev pub below_bit : ℕ → ℕ → ℕ
+below_bit x b = bit_or (x * 2 % 2 ^ 16) b
 
-  pub made_by : (n : ℕ) → IsFromFnResult g f ys n → ys ≡ table n h
-  made_by n made =
-      symbols_all ys h n made.long (λ k l.
-      let z : 0 + k ≡ k = omega arith in
-      ap (λ (j : ℕ). get_or ys j 0) (sym z) ∙ made_from n 0 f refl made.each k l ∙ ap h z)
+pub below_all : (bits : List ℕ) → Bits bits → length bits ≤ 16 → fold below_bit 0 (reverse bits) ≡ number bits
+unfolding number
+below_all [] b h = refl
+below_all (x ∷ xs) b h =
+    let k : number xs < 2 ^ length xs = subst (λ (ys : List ℕ). number ys < 2 ^ length xs) (take_all (length xs) xs (omega arith)) (number_small (length xs) xs (λ i. b (suc i))) in
+    let l : 2 ^ length xs ≤ 2 ^ 15 = pow_mono {i = length xs} {j = 15} (omega arith) in
+    ap (fold below_bit 0) (reverse_onto xs x []) ∙ fold-append below_bit 0 (reverse xs) (x ∷ [])
+    ∙ ap (λ (y : ℕ). below_bit y x) (below_all xs (λ i. b (suc i)) (omega arith))
+    ∙ or_after_shift (number xs) 2 (2 ^ 16) x refl (b 0) (omega arith) ∙ omega arith
+
+-- an array made by a function of the index that keeps what it has
+pub made_by : {F : Type 0} (g : Mut F (ℕ × Unit {0}) ℕ) (f : F) (h : ℕ → ℕ) → ((i y : ℕ) (q : F) → Called g f (i, tt) y q → (q ≡ f) × (y ≡ h i)) → (ys : List ℕ) (n : ℕ) →
+    IsFromFnResult g f ys n → ys ≡ table n h
+made_by g f h gives ys n made = symbols_all ys h n made.long (λ k l. rw zero-add at (each_call g f (λ i y. y ≡ h i) gives ys 0 n made.each k 0 l))

@@ -1,12 +1,11 @@
 -- The parts of a marker block, put one after another.
-use Rattle.std.proofs.Common.{◌≡◌, ℕ, zero, suc, ◌+◌, ◌*◌, ◌/◌, ◌%◌, ◌<◌, ◌≤◌, List, [], ◌∷◌, ◌++◌, length, sym, ap, ◌∙◌, ap₂, inl, inr, append_assoc, add-one, arith, length-append}
+use Rattle.std.proofs.Common.{◌≡◌, ℕ, zero, suc, ◌+◌, ◌*◌, ◌<◌, List, [], ◌∷◌, ◌++◌, sym, ap, ◌∙◌, ap₂, inl, inr, append_assoc, add-one, arith}
 use lib.Bits.{bit_xor}
 use Rattle.blocks.specs.Bits.{field, table, nth}
 use Rattle.blocks.proofs.Scrambles.{table_same, table-append, nth-table}
 use Rattle.sender.specs.Messages.{symbol_bits, marker_block_symbol, marker_block, block_size, pad_size}
 use Rattle.sender.specs.Packing.{Lanes}
 use Rattle.lanes.specs.Pads.{pad_before, pad_bit}
-use Rattle.sender.proofs.Symbols.{length-symbol_bits}
 
 -- one symbol more
 pub symbol_put : (f : ℕ → ℕ) (m x : ℕ) (entry bits new : List ℕ) → x ≡ f m → bits ≡ entry ++ symbol_bits m f → new ≡ bits ++ field x 0 10 → new ≡ entry ++ symbol_bits (m + 1) f
@@ -14,20 +13,6 @@ unfolding symbol_bits
 symbol_put f m x entry bits new e inv h =
     h ∙ ap₂ (λ (bs : List ℕ) (y : ℕ). bs ++ field y 0 10) inv e ∙ append_assoc entry (symbol_bits m f) (field (f m) 0 10)
     ∙ ap (λ (k : ℕ). entry ++ symbol_bits k f) (sym (add-one m))
-
--- the row and the lane of a marker block's symbol
-pub row_of : (lanes row lane : ℕ) → Lanes lanes → lane < lanes → (row * lanes + lane) / lanes ≡ row
-row_of lanes row lane (inl e) h = rw e (let k : lane < 8 = omega arith in omega arith)
-row_of lanes row lane (inr e) h = rw e (let k : lane < 16 = omega arith in omega arith)
-
-pub lane_of : (lanes row lane : ℕ) → Lanes lanes → lane < lanes → (row * lanes + lane) % lanes ≡ lane
-lane_of lanes row lane (inl e) h = rw e (let k : lane < 8 = omega arith in omega arith)
-lane_of lanes row lane (inr e) h = rw e (let k : lane < 16 = omega arith in omega arith)
-
--- twelve rows have room for it
-pub room_left : (lanes row lane : ℕ) → Lanes lanes → row < 12 → lane < lanes → 10 * (row * lanes + lane) + 10 ≤ 120 * lanes
-room_left lanes row lane (inl e) r h = rw e (let k : lane < 8 = omega arith in omega arith)
-room_left lanes row lane (inr e) r h = rw e (let k : lane < 16 = omega arith in omega arith)
 
 one_more : (n : ℕ) (f : ℕ → ℕ) → table n f ++ (f n ∷ []) ≡ table (n + 1) f
 unfolding table
@@ -67,7 +52,3 @@ block_put lanes octet pads status m0 m1 m2 m3 e1 e2 e3 =
     let rows : List ℕ = symbol_bits (12 * lanes) (marker_block_symbol lanes octet) in
     e3 ∙ ap (λ (bs : List ℕ). bs ++ field status 0 3) (e2 ∙ ap (λ (bs : List ℕ). bs ++ pads) e1 ∙ append_assoc m0 rows pads)
     ∙ append_assoc m0 (rows ++ pads) (field status 0 3) ∙ ap (λ (bs : List ℕ). m0 ++ bs) (append_assoc rows pads (field status 0 3))
-
--- the room behind the markers
-pub rows_put : (lanes : ℕ) (f : ℕ → ℕ) (m0 m1 : List ℕ) → m1 ≡ m0 ++ symbol_bits (12 * lanes) f → length m1 ≡ length m0 + 120 * lanes
-rows_put lanes f m0 m1 e = ap length e ∙ length-append m0 (symbol_bits (12 * lanes) f) ∙ ap (λ (n : ℕ). length m0 + n) (length-symbol_bits (12 * lanes) f) ∙ omega arith

@@ -1,5 +1,5 @@
 -- When a send is refused.
-use Rattle.std.proofs.Common.{◌≡◌, ℕ, ◌*◌, ◌<◌, ◌≤◌, eqb, ltb, List, ◌++◌, length, drop, Some, None, Option, refl, inl, inr, arith}
+use Rattle.std.proofs.Common.{◌≡◌, ℕ, ◌*◌, ◌<◌, ◌≤◌, false, eqb, ltb, List, ◌++◌, length, drop, is_some, Some, None, Option, refl, inl, inr, arith}
 use Rattle.std.specs.Option.{option_map}
 use Rattle.std.proofs.lemmas.Bool.{cases_Bool, lt-ltb, le-ltb, ltb-false, eq-eqb, ne_eqb, eqb-true}
 use Rattle.blocks.specs.Calls.{bad_kind}
@@ -41,6 +41,13 @@ module _ (groups : ℕ) (records : List ℕ) (room : ℕ) where
       | inr f ↦ let k = rw (e, f) at h in let z : ◌≡◌ {A = ℕ} 0 1 = cc in absurd (omega arith)
     ]
   ]
+
+  none_if : (o : Option Refusal) → is_some o ≡ false → o ≡ None
+  none_if None h = refl
+  none_if (Some e) h = let z : ◌≡◌ {A = ℕ} 0 1 = cc in absurd (omega arith)
+
+  pub not_refused : is_some (send_refused groups records room) ≡ false → Accepted
+  not_refused h = accepted (none_if _ h)
 
 -- what a send leaves
 module _ (lanes : ℕ) (s : Line) (records : List ℕ) where

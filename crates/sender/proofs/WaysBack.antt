@@ -25,6 +25,7 @@ use Rattle.sender.specs.Returns.{lane_bits, word_back, message_back, blocks_back
 use Rattle.sender.specs.Strips.{pair_bit, lane_octets, strip_octets, strip_of}
 use Rattle.sender.proofs.Coded.{word-nth, length-word, word_small}
 use Rattle.sender.proofs.Messaged.{symbols_all}
+use Rattle.sender.proofs.Opened.{block_filled}
 use Rattle.sender.proofs.Packs.{length_strip}
 use Rattle.sender.proofs.Streams.{length-scrambled, length_stream}
 use Rattle.sender.proofs.Symbols.{table_below, bits_of-octets, length-symbol_bits, binary_symbol_bits, symbol_bits-same, symbol_bits_in, symbol_in-table}
@@ -197,11 +198,7 @@ sound_back (suc n) bs e p s =
     ∙ take-append-drop 4 bs
 
 -- a pair's message has 10,280 bits
-pads_fit : (lanes : ℕ) → Lanes lanes → pad_size lanes + 120 * lanes + 3 ≡ block_size lanes
-pads_fit lanes (inl e) = rw e
-pads_fit lanes (inr e) = rw e
-
-message_fits : (lanes : ℕ) (first : Bool) → Lanes lanes → opening_size lanes first + 257 * group_count lanes first ≡ 10280
+pub message_fits : (lanes : ℕ) (first : Bool) → Lanes lanes → opening_size lanes first + 257 * group_count lanes first ≡ 10280
 message_fits lanes true (inl e) = rw e
 message_fits lanes true (inr e) = rw e
 message_fits lanes false h = refl
@@ -232,7 +229,7 @@ module _ (lanes : ℕ) (octet : ℕ → ℕ → ℕ) where
 
   module _ (wide : Lanes lanes) where
     pads_size : (s : Line) → length (table (pad_size lanes) (pad_bit (nth s.pad))) + 120 * lanes + 3 ≡ block_size lanes
-    pads_size s = ap (λ (n : ℕ). n + 120 * lanes + 3) (length-table (pad_size lanes) (pad_bit (nth s.pad))) ∙ pads_fit lanes wide
+    pads_size s = let n = length-table (pad_size lanes) (pad_bit (nth s.pad)) in let k = block_filled lanes wide in omega arith
 
     pub length_pair : (s : Line) (bs : List Block) → length bs ≡ 4 * groups_of lanes s → length (pair_message lanes octet s bs) ≡ 10280
     unfolding pair_message

@@ -47,6 +47,10 @@ pair_message lanes octet s bs =
 unfoldable pub pad_after : ℕ → Bool → List ℕ → List ℕ
 pad_after lanes opens pad = cond opens (table 9 (pad_before (nth pad) (pad_size lanes))) pad
 
+-- what opens a pair moves the pad on
+abbrev pub opened : ℕ → Line → Line
+opened lanes s = record { scrambler = s.scrambler; pad = pad_after lanes (opens s) s.pad; status = s.status; index = s.index }
+
 unfoldable pub line_after : ℕ → ℕ → Line → List Block → Line
 line_after lanes pairs s bs =
     record {

@@ -2,7 +2,7 @@
 use Rattle.std.specs.Prelude.{◌≡◌, ℕ, ◌+◌, ◌*◌, ◌<◌, ◌⊎◌, List, [], ◌++◌, slice_index_or}
 use Rattle.blocks.specs.Bits.{field, number, table, nth}
 use Rattle.sender.specs.Messages.{Bits}
-use Rattle.sender.specs.Strips.{pair_bit}
+use Rattle.sender.specs.Strips.{lane_symbol, pair_bit, lane_octets, strip_octets}
 
 abbrev pub four_symbols : ℕ → ℕ → ℕ → ℕ → List ℕ
 four_symbols s t u v = field s 0 10 ++ (field t 0 10 ++ (field u 0 10 ++ field v 0 10))
@@ -18,6 +18,19 @@ Small a = (i : ℕ) → nth a i < 1024
 -- one of two words: A is 0, B is 1
 abbrev pub word_of : List (List ℕ) → ℕ → List ℕ
 word_of words w = slice_index_or words w []
+
+-- what lanes carry of two words: a symbol, forty bits, a lane's octets, and those of n lanes
+abbrev pub symbol_on : ℕ → List (List ℕ) → ℕ → ℕ → ℕ
+symbol_on lanes words = lane_symbol lanes (word_of words 0) (word_of words 1)
+
+abbrev pub quad_on : ℕ → List (List ℕ) → ℕ → ℕ → List ℕ
+quad_on lanes words = quad_bits lanes (word_of words 0) (word_of words 1)
+
+abbrev pub octets_on : ℕ → List (List ℕ) → ℕ → List ℕ
+octets_on lanes words = lane_octets lanes (word_of words 0) (word_of words 1)
+
+abbrev pub strip_on : ℕ → List (List ℕ) → ℕ → List ℕ
+strip_on lanes words = strip_octets lanes (word_of words 0) (word_of words 1)
 
 abbrev pub AllSmall : List (List ℕ) → Type 0
 AllSmall words = (w : ℕ) → Small (word_of words w)

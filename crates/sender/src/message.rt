@@ -14,7 +14,8 @@ const MESSAGE_BITS: usize = 10280;
 
 const WORD_BITS: usize = 64;
 
-// A message as far as it is written, one bit a byte. An array with a length beside it, since there is no heap.
+// A message as far as it is written, one bit a byte.
+// An array and a length: `push_bits` fills its place there; an `ArrayVec` takes bit after bit, or a copy of another buffer.
 #[derive(Drop)]
 pub(crate) struct Message {
     bits: [u8; MESSAGE_BITS],
@@ -45,10 +46,9 @@ fn symbol(bits: &[u8; 10]) -> u16
     requires { Bits bits.now }
     ensures { result ≡ number bits.now }
 {
-    let [a, b, c, d, e, f, g, h, i, j] = *bits;
-    let low = a + 2 * b + 4 * c + 8 * d + 16 * e;
-    let high = f + 2 * g + 4 * h + 8 * i + 16 * j;
-    u16::from(low) + 32 * u16::from(high)
+    bits.iter()
+        .rev()
+        .fold(0, |x, bit| (x << 1) | u16::from(*bit))
 }
 
 // Every second symbol, from number `first` on.

@@ -1,13 +1,15 @@
 // Making senders, and sending pairs.
 ghost use Rattle.std.specs.Prelude.{◌≡◌, ℕ, ◌+◌, ◌*◌, ◌/◌, ◌<◌, ◌≤◌, [], ◌++◌, length, None};
+ghost use Rattle.blocks.specs.Bits.{table, nth};
 ghost use Rattle.blocks.specs.Calls.{bad_kind};
 ghost use Rattle.blocks.specs.Memories.{out_memory};
 ghost use Rattle.blocks.specs.Scrambled.{scrambled_bits, scrambler_after};
 ghost use Rattle.code.specs.Code.{codeword_of};
 ghost use Rattle.lanes.specs.HandCases.{HandChecked};
+ghost use Rattle.lanes.specs.Pads.{pad_bit};
 ghost use Rattle.sender.specs.Laws.{Sending};
-ghost use Rattle.sender.specs.Lines.{groups_of, blocks_due, pair_message, line_after, send_refused, answered, Checked, blocks_of, sent_strip, sent_line};
-ghost use Rattle.sender.specs.Messages.{HasRoom, group_stream, word};
+ghost use Rattle.sender.specs.Lines.{opens, groups_of, blocks_due, pair_message, opened, line_after, send_refused, answered, Checked, blocks_of, sent_strip, sent_line};
+ghost use Rattle.sender.specs.Messages.{HasRoom, pad_size, opening, group_stream, word};
 ghost use Rattle.sender.specs.Packing.{Small, word_of};
 ghost use Rattle.sender.specs.View.{line_of, Made};
 
@@ -117,6 +119,18 @@ impl<R: Rate> Sender<R> {
         }
     }
 
+    // Puts what opens the next pair.
+    fn open(&mut self, message: &mut Message)
+        requires { message.old ≡ [] }
+        ensures message { let s = line_of self.old in message.new ≡ opening R.LANES R.octet (opens s) (table (pad_size R.LANES) (pad_bit (nth s.pad))) s.status }
+        ensures line { line_of self.new ≡ opened R.LANES (line_of self.old) }
+    {
+        let opens = self.index == 0;
+        if opens {
+            put_marker_block::<R>(&mut self.pad, self.status, message);
+        }
+    }
+
     // Puts the message of the next pair, and moves on to the pair behind it.
     // Into the caller's message, so that its 10 KB are not moved out as a result.
     fn put_message(&mut self, records: &[u8], message: &mut Message)
@@ -125,10 +139,7 @@ impl<R: Rate> Sender<R> {
         ensures message { message.new ≡ pair_message R.LANES R.octet (line_of self.old) (blocks_of (groups_of R.LANES (line_of self.old)) records.now) }
         ensures line { line_of self.new ≡ line_after R.LANES R.PAIRS (line_of self.old) (blocks_of (groups_of R.LANES (line_of self.old)) records.now) }
     {
-        let opens = self.index == 0;
-        if opens {
-            put_marker_block::<R>(&mut self.pad, self.status, message);
-        }
+        self.open(message);
         put_groups(&mut self.scrambler, records, message);
         self.index = (self.index + 1) % R::PAIRS;
     }

@@ -1,8 +1,7 @@
 // Strips: the two codewords of a pair on the lanes.
 ghost use Rattle.std.specs.Prelude.{◌≡◌, ℕ, ◌+◌, ◌*◌, ◌/◌, ◌<◌, ◌≤◌, ◌++◌, length, drop};
 ghost use Rattle.blocks.specs.Bits.{nth, octets, field};
-ghost use Rattle.sender.specs.Strips.{lane_symbol, lane_octets, strip_octets};
-ghost use Rattle.sender.specs.Packing.{four_symbols, quad_bits, Small, AllSmall, word_of};
+ghost use Rattle.sender.specs.Packing.{four_symbols, Small, AllSmall, symbol_on, quad_on, octets_on, strip_on};
 
 use lanes::Rate;
 use std::array::from_fn;
@@ -45,7 +44,7 @@ impl<R: Rate> Lane<'_, R> {
     // The symbol in a row.
     fn symbol(&self, row: usize) -> u16
         requires { row < 1088 / R.LANES }
-        ensures value { result ≡ lane_symbol R.LANES (word_of self.now.words.now.words 0) (word_of self.now.words.now.words 1) self.now.number row }
+        ensures value { result ≡ symbol_on R.LANES self.now.words.now.words self.now.number row }
         ensures small { result < 1024 }
     {
         self.words.words[(self.number + row) % 2][R::LANES / 2 * row + self.number / 2]
@@ -54,7 +53,7 @@ impl<R: Rate> Lane<'_, R> {
     // The forty bits in four rows.
     fn quad(&self, q: usize) -> u64
         requires { 4 * q + 3 < 1088 / R.LANES }
-        ensures { field result 0 40 ≡ quad_bits R.LANES (word_of self.now.words.now.words 0) (word_of self.now.words.now.words 1) self.now.number q }
+        ensures { field result 0 40 ≡ quad_on R.LANES self.now.words.now.words self.now.number q }
     {
         packed(from_fn(|i| self.symbol(4 * q + i)))
     }
@@ -62,9 +61,9 @@ impl<R: Rate> Lane<'_, R> {
     // The lane's part of the strip.
     fn fill(&self, part: &mut [u8])
         requires { length part.old ≡ 1360 / R.LANES }
-        ensures { part.new ≡ lane_octets R.LANES (word_of self.now.words.now.words 0) (word_of self.now.words.now.words 1) self.now.number }
+        ensures { part.new ≡ octets_on R.LANES self.now.words.now.words self.now.number }
     {
-        // By index: of a slice that was lent in chunks a proof knows only the length.
+        // By index: once the chunks of `chunks_exact_mut` are given back, a proof knows only the length of the whole.
         for q in 0..part.len() / QUAD_BYTES {
             let octets = self.quad(q).to_le_bytes();
             part[QUAD_BYTES * q..QUAD_BYTES * q + QUAD_BYTES].copy_from_slice(
@@ -78,10 +77,10 @@ impl Words {
     // Fills the first 1,360 bytes: lane 0's part, then lane 1's. The rest stays.
     pub(crate) fn fill_strip<R: Rate>(&self, strip: &mut [u8])
         requires { 1360 ≤ length strip.old }
-        ensures { strip.new ≡ strip_octets R.LANES (word_of self.now.words 0) (word_of self.now.words 1) R.LANES ++ drop 1360 strip.old }
+        ensures { strip.new ≡ strip_on R.LANES self.now.words R.LANES ++ drop 1360 strip.old }
     {
         let size = STRIP_BYTES / R::LANES;
-        // By index: of a slice that was lent in chunks a proof knows only the length.
+        // By index: once the chunks of `chunks_exact_mut` are given back, a proof knows only the length of the whole.
         for number in 0..R::LANES {
             let lane = Lane {
                 words: self,

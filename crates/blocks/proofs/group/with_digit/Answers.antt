@@ -1,6 +1,5 @@
-use Rattle.std.proofs.Common.{◌≡◌, ◌<◌, length, rules}
-use Rattle.blocks.proofs.Parts.{Put, put_back_at}
-use Rattle.blocks.proofs.Written.{each_of_four}
+use Rattle.std.proofs.Common.{◌≡◌, ◌<◌, length, rules, arith}
+use Rattle.blocks.proofs.Parts.{put_back_at}
 use Rattle.blocks.proofs.group.with_digit.Goals as goal
 
 pub returns : goal.returns
@@ -12,4 +11,4 @@ returns c =
     let h : length ps ≡ 4 = search rules in
     let n : length rs ≡ length ps = search rules in
     let l : at < length ps = search rules in
-    put_back_at d at ps rs n l (rw h (each_of_four (Put d at ps rs) (search rules) (search rules) (search rules) (search rules)))
+    put_back_at d at ps rs n l (λ k i. let t = c.from_fn.ensures.items.at k 0 (omega (arith, h)) in search (rules, t))

@@ -1,7 +1,6 @@
-use Rattle.std.proofs.Common.{◌≡◌, ℕ, ◌+◌, ◌*◌, ◌^◌, ◌%◌, ◌<◌, List, ◌++◌, length, ap, ◌∙◌, rules}
+use Rattle.std.proofs.Common.{◌≡◌, ℕ, ◌+◌, ◌*◌, ◌^◌, ◌%◌, ◌<◌, List, ◌++◌, length, ap, ◌∙◌, rules, arith}
 use Rattle.blocks.specs.Groups.{without, words}
-use Rattle.blocks.proofs.Parts.{Left, left_out_at, flags_ahead}
-use Rattle.blocks.proofs.Written.{each_of_four}
+use Rattle.blocks.proofs.Parts.{left_out_at, flags_ahead}
 use Rattle.blocks.proofs.group.without_digit.Goals as goal
 
 pub returns : goal.returns
@@ -13,5 +12,5 @@ returns c =
     let h : length ps ≡ 4 = search rules in
     let n : length rs ≡ length ps = search rules in
     let l : at < length ps = search rules in
-    left_out_at before at ps rs n l (rw h (each_of_four (Left before at ps rs) (search rules) (search rules) (search rules) (search rules)))
+    left_out_at before at ps rs n l (λ k i. let t = c.from_fn.ensures.items.at k 0 (omega (arith, h)) in search (rules, t))
     ∙ ap (λ (fs : List ℕ). fs ++ without (64 * at + 4) (words ps)) (flags_ahead c.args.flags)

@@ -5,12 +5,12 @@ use Rattle.lanes.specs.Markers.{found}
 use Rattle.lanes.specs.Locks.{tested, seen}
 use Rattle.lanes.specs.declared.lock.Outcome.{Outcome}
 use Rattle.lanes.specs.declared.lock.Outcome.TheVariants.{Failed, Passed}
-use Rattle.lanes.proofs.Lanes.{lowest-none}
+use Rattle.blocks.proofs.Lowest.{lowest_none}
 use Rattle.lanes.proofs.lock.test.Goals as goal
 
 -- no window passes for no lane
 lane_of : (lanes : ℕ) (octet : ℕ → ℕ → ℕ) (w o : Option ℕ) → MatchOption w (o ≡ None) (λ x. o ≡ found lanes octet x) → o ≡ lowest (tested lanes octet w) lanes
-lane_of lanes octet None o h = h ∙ sym (lowest-none (λ l. false) lanes (λ i l. refl))
+lane_of lanes octet None o h = h ∙ sym (lowest_none (λ l. false) lanes (λ i l. refl))
 lane_of lanes octet (Some x) o h = h
 
 seen_of : (o : Option ℕ) (r : Outcome) → MatchOption o (r ≡ Failed) (λ l. r ≡ Passed l) → r ≡ seen o

@@ -1,6 +1,9 @@
-use Rattle.std.proofs.Common.{rules}
-use Rattle.sender.proofs.Messaged.{ten_bits}
+use Rattle.std.proofs.Common.{◌≡◌, length, fold, reverse, ◌∙◌, arith, rules}
+use Rattle.sender.proofs.Messaged.{below_bit, below_all}
 use Rattle.sender.proofs.message.symbol.Goals as goal
 
 pub returns : goal.returns
-returns c = ten_bits c.args.bits.now (search rules) c.from.result c.from-2.result c.from.ensures c.from-2.ensures
+returns c =
+    let e : c.fold.result ≡ fold below_bit 0 (reverse c.args.bits.now) = search rules in
+    let n : length c.args.bits.now ≡ 10 = search rules in
+    e ∙ below_all c.args.bits.now c.requires (omega arith)

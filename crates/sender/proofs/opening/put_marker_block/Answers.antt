@@ -1,26 +1,29 @@
-use Rattle.std.proofs.Common.{◌≡◌, ℕ, ◌+◌, List, ◌++◌, length, ap, ◌∙◌, arith, length-append}
+use Rattle.std.proofs.Common.{ℕ, ◌*◌, List, ◌++◌, ap, ◌∙◌, arith}
 use Rattle.blocks.specs.Bits.{field, table, nth}
 use Rattle.blocks.proofs.Scrambles.{length-table}
 use Rattle.lanes.specs.Pads.{pad_bit, pad_memory}
-use Rattle.sender.specs.Messages.{marker_block_symbol, pad_size}
-use Rattle.sender.proofs.Opened.{block_filled, block_put, rows_put}
+use Rattle.sender.specs.Messages.{symbol_bits, marker_block_symbol, pad_size}
+use Rattle.sender.proofs.Messaged.{put_length}
+use Rattle.sender.proofs.Opened.{block_filled, block_put}
+use Rattle.sender.proofs.Symbols.{length-symbol_bits}
 use Rattle.sender.proofs.opening.put_marker_block.Goals as goal
 
 pub put_pad-requires : goal.put_pad-requires
 put_pad-requires g c =
     let lanes : ℕ = g.R.Rate.LANES in
-    let n = rows_put lanes (marker_block_symbol lanes g.R.Rate.octet) c.args.message.now c.put_markers.new.message c.put_markers.ensures in
+    let f = marker_block_symbol lanes g.R.Rate.octet in
+    let n = put_length c.args.message.now (symbol_bits (12 * lanes) f) c.put_markers.ensures (length-symbol_bits (12 * lanes) f) in
     let k = block_filled lanes g.met.R.Rate.lawful.width in
     omega (arith, c.pad_size.ensures)
 
 pub push_bits-requires : goal.push_bits-requires
 push_bits-requires g c =
     let lanes : ℕ = g.R.Rate.LANES in
-    let f = pad_bit (nth (pad_memory c.args.pad.now)) in
-    let n = rows_put lanes (marker_block_symbol lanes g.R.Rate.octet) c.args.message.now c.put_markers.new.message c.put_markers.ensures in
+    let f = marker_block_symbol lanes g.R.Rate.octet in
+    let n = put_length c.args.message.now (symbol_bits (12 * lanes) f) c.put_markers.ensures (length-symbol_bits (12 * lanes) f) in
     let k = block_filled lanes g.met.R.Rate.lawful.width in
-    let m : length c.put_pad.new.message ≡ length c.put_markers.new.message + c.pad_size.result =
-    ap length c.put_pad.ensures.bits ∙ length-append c.put_markers.new.message (table c.pad_size.result f) ∙ ap (λ (j : ℕ). length c.put_markers.new.message + j) (length-table c.pad_size.result f) in
+    let pads = pad_bit (nth (pad_memory c.args.pad.now)) in
+    let m = put_length c.put_markers.new.message (table c.pad_size.result pads) c.put_pad.ensures.bits (length-table c.pad_size.result pads) in
     (omega (arith, c.pad_size.ensures), omega arith)
 
 pub returns-clause-bits : goal.returns-clause-bits

@@ -1,7 +1,9 @@
-use Rattle.std.proofs.Common.{◌≡◌, ℕ, ◌+◌, ◌*◌, ◌/◌, ◌%◌, ◌++◌, length, sym, ap, ◌∙◌, ap₂, add-zero, add-one, suc-mul, zero-mul, append-nil, arith, length-append}
+use Rattle.std.proofs.Common.{◌≡◌, ℕ, ◌+◌, ◌*◌, ◌/◌, ◌%◌, ◌++◌, sym, ap, ◌∙◌, ap₂, add-zero, add-one, suc-mul, zero-mul, append-nil, arith}
+use Rattle.std.proofs.lemmas.Nat.{div-mul-add, mod-mul-add, mul-add-lt}
 use Rattle.lanes.specs.Markers.{symbol_in, marker_bits}
 use Rattle.sender.specs.Messages.{symbol_bits, marker_block_symbol, exchanged}
-use Rattle.sender.proofs.Opened.{symbol_put, row_of, lane_of, room_left}
+use Rattle.sender.proofs.Messaged.{put_length}
+use Rattle.sender.proofs.Opened.{symbol_put}
 use Rattle.sender.proofs.Symbols.{length-symbol_bits}
 use Rattle.sender.proofs.opening.put_markers.Goals as goal
 
@@ -19,10 +21,9 @@ pub push_bits-requires : goal.push_bits-requires
 push_bits-requires g c =
     let f = marker_block_symbol g.R.Rate.LANES g.R.Rate.octet in
     let m : ℕ = c.loop-row.row * g.R.Rate.LANES + c.loop-lane.lane in
-    let n : length c.loop-lane.message ≡ length c.args.message.now + 10 * m =
-    ap length c.loop-lane.invariant ∙ length-append c.args.message.now (symbol_bits m f) ∙ ap (λ (k : ℕ). length c.args.message.now + k) (length-symbol_bits m f) in
+    let n = put_length c.args.message.now (symbol_bits m f) c.loop-lane.invariant (length-symbol_bits m f) in
     let w = c.LANES-lane-end.ensures in
-    let h = room_left g.R.Rate.LANES c.loop-row.row c.loop-lane.lane g.met.R.Rate.lawful.width c.loop-row-test.true (omega arith) in
+    let h = mul-add-lt c.loop-row.row g.R.Rate.LANES c.loop-lane.lane 12 c.loop-row-test.true (omega arith) in
     (omega arith, omega arith)
 
 pub loop-lane-preserved : goal.loop-lane-preserved
@@ -37,7 +38,7 @@ loop-lane-preserved g c =
     let at : ℕ → ℕ → ℕ = λ l k. symbol_in (marker_bits lanes octet l) k in
     let e : c.from.result ≡ at (exchanged (m / lanes) (m % lanes)) (m / lanes) =
     c.from.ensures ∙ c.marker_symbol-symbol.ensures ∙ ap (λ (l : ℕ). at l row) c.exchanged.ensures
-    ∙ ap₂ (λ (k l : ℕ). at (exchanged k l) k) (sym (row_of lanes row lane g.met.R.Rate.lawful.width (omega arith))) (sym (lane_of lanes row lane g.met.R.Rate.lawful.width (omega arith))) in
+    ∙ ap₂ (λ (k l : ℕ). at (exchanged k l) k) (sym (div-mul-add row lanes lane (omega arith))) (sym (mod-mul-add row lanes lane (omega arith))) in
     symbol_put (marker_block_symbol lanes octet) m c.from.result c.args.message.now c.loop-lane.message c.push_bits.new.self e c.loop-lane.invariant c.push_bits.ensures
     ∙ ap (λ (k : ℕ). c.args.message.now ++ symbol_bits k (marker_block_symbol lanes octet)) (omega arith)
 

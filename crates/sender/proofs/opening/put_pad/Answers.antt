@@ -1,8 +1,9 @@
-use Rattle.std.proofs.Common.{◌≡◌, ℕ, ◌+◌, ◌<◌, List, length, refl, sym, ap, ◌∙◌, subst, append-nil, arith, rules, length-append}
+use Rattle.std.proofs.Common.{ℕ, ◌<◌, List, refl, sym, subst, append-nil, arith, rules}
 use Rattle.blocks.specs.Bits.{field, table, nth}
 use Rattle.blocks.proofs.Shapes.{binary_field}
 use Rattle.blocks.proofs.Scrambles.{length-table}
 use Rattle.lanes.specs.Pads.{pad_before, pad_bit, pad_memory}
+use Rattle.sender.proofs.Messaged.{put_length}
 use Rattle.sender.proofs.Opened.{memory_more, pad_put}
 use Rattle.sender.proofs.WaysBack.{binary_pad}
 use Rattle.sender.proofs.opening.put_pad.Goals as goal
@@ -14,8 +15,7 @@ loop-init c = (sym (append-nil c.args.message.now), refl)
 pub push-requires : goal.push-requires
 push-requires c =
     let past = nth (pad_memory c.args.pad.now) in
-    let n : length c.loop.message ≡ length c.args.message.now + c.loop.counter =
-    ap length c.loop.invariant.0 ∙ length-append c.args.message.now (table c.loop.counter (pad_bit past)) ∙ ap (λ (k : ℕ). length c.args.message.now + k) (length-table c.loop.counter (pad_bit past)) in
+    let n = put_length c.args.message.now (table c.loop.counter (pad_bit past)) c.loop.invariant.0 (length-table c.loop.counter (pad_bit past)) in
     let memory : List ℕ = pad_memory c.loop.pad in
     let b : c.next.result < 2 = subst (λ (b : ℕ). b < 2) (sym c.next.ensures.bit) (binary_pad (nth memory) (binary_field c.loop.pad.memory 0 9) 1 0) in
     (omega arith, search rules)

@@ -1,5 +1,4 @@
-use Rattle.std.proofs.Common.{◌≡◌, ℕ, ◌+◌, ◌*◌, ◌/◌, ◌≤◌, List, [], ◌∷◌, ◌++◌, length, drop, sym, ap, ◌∙◌, append-nil, arith, rules, length-append, length-drop}
-use Rattle.std.specs.Slice.Iter.{chunks_exact_rest}
+use Rattle.std.proofs.Common.{◌≡◌, ℕ, ◌+◌, ◌*◌, ◌/◌, List, [], ◌∷◌, ◌++◌, length, drop, sym, ap, ◌∙◌, append-nil, arith, rules, length-append, length-drop}
 use Rattle.blocks.specs.Bits.{table}
 use Rattle.blocks.specs.Blocks.{blocks_in}
 use Rattle.blocks.specs.Calls.{four_refused}
@@ -9,7 +8,8 @@ use Rattle.blocks.specs.Scrambled.{scrambled_bits, scrambler_after}
 use Rattle.blocks.specs.declared.block.Block.{Block}
 use Rattle.sender.specs.Lines.{blocks_of}
 use Rattle.sender.specs.Messages.{group_at, group_stream}
-use Rattle.sender.proofs.Grouping.{no_bad_kind, four_blocks, four_room, four_is, behind_is, grouped_ok, grouped_bits, memory_kept, memory_more, group_more}
+use Rattle.sender.proofs.Grouping.{no_bad_kind, four_blocks, next, grouped_ok, grouped_bits, memory_kept, memory_more, group_more}
+use Rattle.sender.proofs.Messaged.{put_length}
 use Rattle.sender.proofs.Streams.{length_blocks, blocks_group, length-scrambled, length_stream}
 use Rattle.sender.proofs.send.put_groups.Goals as goal
 
@@ -28,16 +28,11 @@ loop-four-init c = record {
 pub unwrap-group-requires : goal.unwrap-group-requires
 unwrap-group-requires c =
     let records : List ℕ = c.args.records.now in
-    let g : ℕ = length c.loop-four.yielded in
     let inv = c.loop-four.invariant in
     let steps = c.in-Some.ensures.steps in
-    let four : List ℕ = c.in-Some.four.now in
-    let rest : List ℕ = chunks_exact_rest c.loop-four.four-iterator in
-    let behind : List ℕ = chunks_exact_rest c.next.new.self in
-    let size : length four ≡ 36 = steps.1.1 ∙ inv.size in
-    grouped_ok four c.group_of.result c.group_of.ensures
-    (ap four_refused (four_is records rest four behind g inv.rest inv.inside steps.1.0 size)
-    ∙ no_bad_kind records g (four_room records rest four behind g inv.rest inv.inside steps.1.0 size) c.requires.records)
+    let four = next inv.rest inv.inside steps.1.0 (steps.1.1 ∙ inv.size) in
+    grouped_ok c.in-Some.four.now c.group_of.result c.group_of.ensures
+    (ap four_refused four.four_is ∙ no_bad_kind records (length c.loop-four.yielded) four.room c.requires.records)
 
 pub push_group-requires : goal.push_group-requires
 push_group-requires c =
@@ -45,14 +40,12 @@ push_group-requires c =
     let g : ℕ = length c.loop-four.yielded in
     let inv = c.loop-four.invariant in
     let steps = c.in-Some.ensures.steps in
-    let four : List ℕ = c.in-Some.four.now in
-    let size : length four ≡ 36 = steps.1.1 ∙ inv.size in
-    let room = four_room records (chunks_exact_rest c.loop-four.four-iterator) four (chunks_exact_rest c.next.new.self) g inv.rest inv.inside steps.1.0 size in
+    let room = (next inv.rest inv.inside steps.1.0 (steps.1.1 ∙ inv.size)).room in
     let bs : List Block = blocks_of (length records / 36) records in
     let n : length bs ≡ 4 * (length records / 36) = length_blocks (4 * (length records / 36)) records in
-    let s : List ℕ = scrambled_bits (out_memory c.args.scrambler.now) (group_stream bs g) in
-    let k : length s ≡ 257 * g = length-scrambled (out_memory c.args.scrambler.now) (group_stream bs g) ∙ length_stream bs g (omega arith) in
-    let m : length c.loop-four.message ≡ length c.args.message.now + length s = ap length inv.bits ∙ length-append c.args.message.now s in
+    let memory : List ℕ = out_memory c.args.scrambler.now in
+    let k : length (scrambled_bits memory (group_stream bs g)) ≡ 257 * g = length-scrambled memory (group_stream bs g) ∙ length_stream bs g (omega arith) in
+    let m = put_length c.args.message.now (scrambled_bits memory (group_stream bs g)) inv.bits k in
     let r = c.requires.room in
     omega arith
 
@@ -62,11 +55,8 @@ loop-four-preserved c =
     let g : ℕ = length c.loop-four.yielded in
     let inv = c.loop-four.invariant in
     let steps = c.in-Some.ensures.steps in
-    let four : List ℕ = c.in-Some.four.now in
-    let rest : List ℕ = chunks_exact_rest c.loop-four.four-iterator in
-    let behind : List ℕ = chunks_exact_rest c.next.new.self in
-    let size : length four ≡ 36 = steps.1.1 ∙ inv.size in
-    let room : 36 * g + 36 ≤ length records = four_room records rest four behind g inv.rest inv.inside steps.1.0 size in
+    let four = next inv.rest inv.inside steps.1.0 (steps.1.1 ∙ inv.size) in
+    let room = four.room in
     let more : length (c.loop-four.yielded ++ c.in-Some.four ∷ []) ≡ g + 1 = length-append c.loop-four.yielded _ in
     let n : ℕ = length records / 36 in
     let bs : List Block = blocks_of n records in
@@ -74,14 +64,14 @@ loop-four-preserved c =
     let m : List ℕ = out_memory c.args.scrambler.now in
     let memory : List ℕ = out_memory c.loop-four.scrambler in
     let is : group ≡ group_bits (group_at bs g) =
-    grouped_bits four c.group_of.result c.unwrap-group.result c.unwrap-group.ensures c.group_of.ensures
-    ∙ ap (λ (xs : List ℕ). group_bits (blocks_in 4 xs)) (four_is records rest four behind g inv.rest inv.inside steps.1.0 size)
+    grouped_bits c.in-Some.four.now c.group_of.result c.unwrap-group.result c.unwrap-group.ensures c.group_of.ensures
+    ∙ ap (λ (xs : List ℕ). group_bits (blocks_in 4 xs)) four.four_is
     ∙ ap group_bits (four_blocks records g room ∙ sym (blocks_group n g records (omega arith))) in
     record {
       can_next = search rules;
       is_finite = tt;
       size = steps.0 ∙ inv.size;
-      rest = behind_is records rest four behind g inv.rest inv.inside steps.1.0 size ∙ ap (λ (k : ℕ). drop (36 * k) records) (sym more);
+      rest = four.behind_is ∙ ap (λ (k : ℕ). drop (36 * k) records) (sym more);
       inside = omega arith;
       bits = group_more bs g m memory group (bits_of c.scramble.result) inv.memory is c.args.message.now c.loop-four.message c.push_group.new.self c.scramble.ensures.out inv.bits c.push_group.ensures
           ∙ ap (λ (k : ℕ). c.args.message.now ++ scrambled_bits m (group_stream bs k)) (sym more);

@@ -5,7 +5,7 @@ use Rattle.blocks.proofs.reader.Reader.new.Goals as goal
 
 pub invariant_of-result : goal.invariant_of-result
 unfolding rest_at
-invariant_of-result c = record { inside = omega arith; counted = omega arith; placed = refl }
+invariant_of-result c = record { counted = omega arith; placed = refl }
 
 pub returns : goal.returns
 returns c = record { source = refl; index = refl; visits = visits }

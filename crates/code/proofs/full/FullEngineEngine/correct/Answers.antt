@@ -1,5 +1,5 @@
 -- What is stored is the codeword that was proposed.
-use Rattle.std.proofs.Common.{MatchBool, ◌≡◌, ◌≤◌, length, sym, refl, ap, subst, arith}
+use Rattle.std.proofs.Common.{◌≡◌, ◌≤◌, length, sym, refl, ap, subst, arith}
 use Rattle.code.specs.declared.refusal.Refusal.TheVariants.{Reach}
 use Rattle.code.specs.Code.{Codeword, distance}
 use Rattle.code.specs.Answers.{Refused, Repaired}
@@ -18,11 +18,11 @@ pub propose-requires : goal.propose-requires
 propose-requires c =
     word_values c.in_ok-received.received.symbols.now c.remainder-remainder.result.symbols c.find_syndromes-syndromes.result c.remainder-remainder.ensures c.find_syndromes-syndromes.ensures
 
-pub returns-then-not-is_accepted : goal.returns-then-not-is_accepted
-returns-then-not-is_accepted c =
+pub returns-then-not-has_roots : goal.returns-then-not-has_roots
+returns-then-not-has_roots c =
     let r = c.in_ok-received.received in
     let v = c.in_ok-corrected.corrected in
-    let none : Codeword v → ⊥ = subst (λ b. MatchBool b (Codeword v) (Codeword v → ⊥)) c.if-not-is_accepted.true c.has_roots-is_accepted.ensures in
+    let none : Codeword v → ⊥ = c.if-not-has_roots.ensures in
     (refl, subst (λ w. Refused 15 w Reach) c.in_ok-received.ensures (formed r, λ u code near. none (subst Codeword (c.in_ok-corrected.ensures.only u code near) code)))
 
 pub copy_from_slice-requires : goal.copy_from_slice-requires
@@ -37,7 +37,7 @@ returns c =
     let r = c.in_ok-received.received in
     let v = c.in_ok-corrected.corrected in
     let n = c.count_changes-count.result in
-    let code : Codeword v = subst (λ b. MatchBool b (Codeword v) (Codeword v → ⊥)) c.if-not-is_accepted.false c.has_roots-is_accepted.ensures in
+    let code : Codeword v = c.if-not-has_roots.ensures in
     let count : n ≡ distance r.symbols.now v = c.count_changes-count.ensures in
     let near : distance r.symbols.now v ≤ 15 = c.in_ok-corrected.ensures.near in
     let repaired : Repaired 15 r.symbols.now v n = record { formed = formed r; codeword = code; changed = sym count; within = omega arith } in

@@ -1,8 +1,8 @@
-use Rattle.std.proofs.Common.{◌≡◌, ℕ, suc, ◌+◌, ◌*◌, List, [], ◌∷◌, ◌++◌, length, get_or, take, sym, ap, ◌∙◌, append_assoc, add-one, arith, rules, length-append, length-take-le}
+use Rattle.std.proofs.Common.{◌≡◌, ℕ, suc, ◌+◌, ◌*◌, List, [], ◌∷◌, ◌++◌, length, get_or, take, sym, ap, ◌∙◌, append_assoc, add-one, arith, rules, length-take-le}
 use Rattle.std.proofs.lemmas.List.{take_all}
 use Rattle.blocks.specs.Bits.{field}
 use Rattle.blocks.specs.Groups.{words, one_if}
-use Rattle.sender.proofs.Messaged.{length-words, words_more}
+use Rattle.sender.proofs.Messaged.{put_length, length-words, words_more}
 use Rattle.sender.proofs.message.Message.push_group.Goals as goal
 
 pub loop-part-init : goal.loop-part-init
@@ -15,7 +15,7 @@ push_bits-requires c =
     let four : length ps ≡ 4 = search rules in
     let bits : List ℕ = one_if c.args.group.first ∷ words (take k ps) in
     let n : length bits ≡ 64 * k + 1 = ap suc (length-words (take k ps) ∙ ap (λ (j : ℕ). 64 * j) (length-take-le k ps (omega arith))) ∙ omega arith in
-    let m : length c.loop-part.self ≡ length c.args.self.now + length bits = ap length c.loop-part.invariant ∙ length-append c.args.self.now bits in
+    let m = put_length c.args.self.now bits c.loop-part.invariant n in
     (omega arith, omega arith)
 
 pub loop-part-preserved : goal.loop-part-preserved
