@@ -1,0 +1,40 @@
+// The file of one lane.
+use anyhow::Context;
+use sha2::{Digest, Sha256};
+use std::fs::File;
+use std::io::{BufWriter, Write};
+
+// The octets of a lane, in a file, and their digest so far.
+#[derive(Drop)]
+pub struct LaneFile {
+    path: String,
+    out: BufWriter<File>,
+    digest: Sha256,
+}
+
+impl LaneFile {
+    pub fn create(rt: &HostRuntime, prefix: &str, lane: usize) -> anyhow::Result<LaneFile> {
+        let path = format!(in rt.alloc(); "{prefix}{lane:02}")?;
+        let file = File::create(rt, path.as_str()).context(format_args!("making {path}"))?;
+        Ok(LaneFile {
+            out: BufWriter::new(rt.alloc(), file)?,
+            digest: Sha256::new(),
+            path,
+        })
+    }
+
+    pub fn append(&mut self, octets: &[u8]) -> anyhow::Result<()> {
+        self.digest.update(octets);
+        self.out.write_all(octets)?;
+        Ok(())
+    }
+
+    // Closes the file, and prints its digest and its name as the program sha256sum does.
+    pub fn finish(mut self, rt: &HostRuntime) -> anyhow::Result<()> {
+        self.out.flush()?;
+        let digest = self.digest.finalize();
+        let text = hex::encode(rt.alloc(), &digest)?;
+        println!(rt; "{text}  {}", self.path)?;
+        Ok(())
+    }
+}
