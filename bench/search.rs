@@ -42,34 +42,64 @@ fn found(markers: &[u128; 8], window: u128) -> Option<usize> {
     markers.iter().position(|m| wrong(window, *m, OWN) <= 3)
 }
 
+struct Sequence(u64);
+
+impl Sequence {
+    fn next(&mut self) -> u64 {
+        self.0 ^= self.0 << 13;
+        self.0 ^= self.0 >> 7;
+        self.0 ^= self.0 << 17;
+        self.0
+    }
+}
+
+// A window that is a marker at first, and then takes in random bits.
 fn search(markers: &[u128; 8]) -> u64 {
-    let mut state = 1u64;
-    let mut window = 0u128;
+    let mut sequence = Sequence(1);
+    let mut window = markers[0];
     let mut bits = 0;
-    let mut waits = 0;
+    let mut count = 0;
     for tick in 0..TICKS {
+        if found(markers, window).is_some() {
+            count += 1;
+        }
         if tick % 64 == 0 {
-            state ^= state << 13;
-            state ^= state >> 7;
-            state ^= state << 17;
-            bits = state;
+            bits = sequence.next();
         }
         window = (window >> 1) | (u128::from(bits % 2) << 119);
         bits >>= 1;
-        if found(markers, window).is_some() {
-            waits += 1;
-        }
     }
-    waits
+    count
+}
+
+// The same on windows that have a marker's shared octets and its own at random.
+fn search_own(markers: &[u128; 8]) -> u64 {
+    let shared = markers[0] % (1 << 64);
+    let mut sequence = Sequence(1);
+    let mut window = markers[0];
+    let mut count = 0;
+    for _ in 0..TICKS {
+        if found(markers, window).is_some() {
+            count += 1;
+        }
+        window = shared | (u128::from(sequence.next() >> 8) << 64);
+    }
+    count
+}
+
+fn measure(what: &str, work: fn(&[u128; 8]) -> u64) {
+    let markers = LETTERS.map(marker);
+    let mut least = u128::MAX;
+    let mut answer = 0;
+    for _ in 0..ROUNDS {
+        let start = Instant::now();
+        answer = work(black_box(&markers));
+        least = least.min(start.elapsed().as_nanos());
+    }
+    println!("{what}: {} ps, answer {answer}", least * 1000 / u128::from(TICKS));
 }
 
 fn main() {
-    let markers = LETTERS.map(marker);
-    let mut least = u128::MAX;
-    for _ in 0..ROUNDS {
-        let start = Instant::now();
-        black_box(search(black_box(&markers)));
-        least = least.min(start.elapsed().as_nanos());
-    }
-    println!("tick while searching: {} ps", least * 1000 / u128::from(TICKS));
+    measure("tick, random bits", search);
+    measure("tick, shared octets", search_own);
 }

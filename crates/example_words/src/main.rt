@@ -4,6 +4,7 @@
 // taken from is no evidence.
 #![tactic(auto)]
 
+use anyhow::{Context, bail, ensure};
 use lanes::{Rate200, Rate400};
 use pair::Pair;
 use std::io::{BufRead, BufReader};
@@ -17,7 +18,7 @@ enum Printed {
     Word(usize),
 }
 
-// The rows of one message or word.
+// The rows of one message or word. The pair by value: the borrow checker takes no `find` among tables that borrow it.
 #[derive(Clone, Copy)]
 struct Table {
     name: &'static str,
@@ -58,15 +59,18 @@ impl Table {
     }
 
     // Tries a row, if it is whole.
-    fn try_row(&mut self, row: usize, status: &str, digits: &str) {
-        if status != "whole" {
-            self.damaged = self.damaged.saturating_add(1);
-            return;
+    fn try_row(&mut self, row: usize, status: &str, digits: &str) -> anyhow::Result<()> {
+        match status {
+            "whole" => {
+                self.tried = self.tried.saturating_add(1);
+                if self.is_row(row, digits.as_bytes()) {
+                    self.equal = self.equal.saturating_add(1);
+                }
+            }
+            "damaged" => self.damaged = self.damaged.saturating_add(1),
+            _ => bail!("a row is whole or damaged"),
         }
-        self.tried = self.tried.saturating_add(1);
-        if self.is_row(row, digits.as_bytes()) {
-            self.equal = self.equal.saturating_add(1);
-        }
+        Ok(())
     }
 }
 
@@ -88,9 +92,10 @@ fn main(rt: HostRuntime) -> anyhow::Result<()> {
         let row = words.next().unwrap_or("").parse()?;
         let status = words.next().unwrap_or("");
         let digits = words.next().unwrap_or("");
-        if let Some(table) = tables.iter_mut().find(|table| table.name == name) {
-            table.try_row(row, status, digits);
-        }
+        let table = tables.iter_mut().find(|table| table.name == name);
+        table
+            .context("a row of an unknown word")?
+            .try_row(row, status, digits)?;
     }
     let mut tried = 0u64;
     let mut equal = 0u64;
@@ -103,5 +108,6 @@ fn main(rt: HostRuntime) -> anyhow::Result<()> {
         equal = equal.saturating_add(table.equal);
     }
     println!(rt; "{tried} rows tried, {equal} equal")?;
+    ensure!(tried == equal, "some rows are not those that were sent");
     Ok(())
 }

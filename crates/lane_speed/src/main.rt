@@ -46,24 +46,51 @@ fn send<R: Rate>() -> anyhow::Result<u64> {
     Ok(sum)
 }
 
-// Ticks of a searching position, and how often it began to wait.
+// The marker of lane 0 at 200.
+fn marker() -> u128 {
+    Rate200::marker(0).iter().rev().fold(
+        0,
+        |bits, octet| bits % (1 << 112) * 256 + u128::from(*octet),
+    )
+}
+
+// Whether a searching position begins to wait on that window.
+fn waits(window: u128) -> bool {
+    step::<Rate200>(&mut Lock::Searching, Some(window)) == Event::Waits
+}
+
+// Ticks of a searching position whose window is a marker at first, and how often it began to wait.
 fn search() -> anyhow::Result<u64> {
     let mut sequence = Sequence { state: 1 };
-    let mut window = 0u128;
+    let mut window = marker();
     let mut bits = 0;
-    let mut waits = 0u64;
+    let mut count = 0u64;
     for tick in 0..TICKS {
+        if waits(window) {
+            count = count.saturating_add(1);
+        }
         if tick % 64 == 0 {
             bits = sequence.next();
         }
         window = (window >> 1) | (u128::from(bits % 2) << 119);
         bits >>= 1;
-        let mut lock = Lock::Searching;
-        if step::<Rate200>(&mut lock, Some(window)) == Event::Waits {
-            waits = waits.saturating_add(1);
-        }
     }
-    Ok(waits)
+    Ok(count)
+}
+
+// The same on windows that have a marker's shared octets and its own at random, so that each lane is tried.
+fn search_own() -> anyhow::Result<u64> {
+    let shared = marker() % (1 << 64);
+    let mut sequence = Sequence { state: 1 };
+    let mut window = marker();
+    let mut count = 0u64;
+    for _ in 0..TICKS {
+        if waits(window) {
+            count = count.saturating_add(1);
+        }
+        window = shared | (u128::from(sequence.next() >> 8) << 64);
+    }
+    Ok(count)
 }
 
 // Does the work, for which `count` says how many steps it has, and prints its answer or the time of a step.
@@ -81,13 +108,14 @@ fn measure<F: Fn() -> anyhow::Result<u64>>(
         return Ok(());
     }
     let mut least = u128::MAX;
+    let mut answer = 0;
     for _ in 0..ROUNDS {
         let start = Instant::now(rt)?;
-        work()?;
+        answer = work()?;
         least = least.min(start.elapsed(rt)?.as_nanos());
     }
     let each = least.saturating_mul(1000) / u128::from(count.max(1));
-    println!(rt; "{what}: {each} ps")?;
+    println!(rt; "{what}: {each} ps, answer {answer}")?;
     Ok(())
 }
 
@@ -95,5 +123,6 @@ fn main(rt: HostRuntime) -> anyhow::Result<()> {
     let timed = env::args(&rt)?.any(|word| word.as_str() == "times");
     measure(&rt, timed, "send at 200", SENDS, send::<Rate200>)?;
     measure(&rt, timed, "send at 400", SENDS, send::<Rate400>)?;
-    measure(&rt, timed, "tick while searching", TICKS, search)
+    measure(&rt, timed, "tick, random bits", TICKS, search)?;
+    measure(&rt, timed, "tick, shared octets", TICKS, search_own)
 }

@@ -1,9 +1,9 @@
 // The arguments: what to send by, where to write, and where the blocks come from.
-use anyhow::{Context, anyhow};
+use anyhow::{Context, anyhow, bail};
 use std::env;
 use std::str::FromStr;
 
-const USAGE: &str = "usage: strips RATE SCRAMBLER-START PAD-START STATUS PREFIX [BLOCKS]";
+const USAGE: &str = "usage: strips 200|400|short SCRAMBLER-START PAD-START STATUS PREFIX [BLOCKS]";
 
 #[derive(Clone, Copy, PartialEq, Eq, Debug)]
 pub enum RateName {
@@ -29,17 +29,21 @@ fn rate(text: &str) -> anyhow::Result<RateName> {
         "200" => Ok(RateName::Rate200),
         "400" => Ok(RateName::Rate400),
         "short" => Ok(RateName::Short),
-        _ => Err(anyhow!("the rate is 200, 400 or short")),
+        _ => Err(anyhow!(USAGE)),
     }
 }
 
-// A number in decimal digits, or in hexadecimal ones behind 0x.
+// A number in decimal digits, or in hexadecimal ones behind 0x. One that is too large for its type is the largest of the type,
+// which is out of every range too.
 fn number(text: &str) -> anyhow::Result<u64> {
-    let number = match text.strip_prefix("0x") {
-        Some(digits) => u64::from_str_radix(digits, 16),
-        None => text.parse(),
+    let (digits, radix) = match text.strip_prefix("0x") {
+        Some(digits) => (digits, 16),
+        None => (text, 10),
     };
-    number.context(format_args!("reading the number {text:?}"))
+    if digits.is_empty() || !digits.chars().all(|c| c.is_digit(radix)) {
+        bail!("{text:?} is no number");
+    }
+    Ok(u64::from_str_radix(digits, radix).unwrap_or(u64::MAX))
 }
 
 impl Arguments {
@@ -51,14 +55,17 @@ impl Arguments {
         let pad = number(next()?.as_str())?;
         let status = number(next()?.as_str())?;
         let prefix = next()?;
+        let blocks = words.next();
+        if words.next().is_some() {
+            bail!(USAGE);
+        }
         Ok(Arguments {
             rate,
             scramble,
-            // What does not fit the type is out of range too, and the sender refuses it.
             pad: u16::try_from(pad).unwrap_or(u16::MAX),
             status: u8::try_from(status).unwrap_or(u8::MAX),
             prefix,
-            blocks: words.next(),
+            blocks,
         })
     }
 }

@@ -13,8 +13,7 @@ pub struct LaneFile {
 }
 
 impl LaneFile {
-    pub fn create(rt: &HostRuntime, prefix: &str, lane: usize) -> anyhow::Result<LaneFile> {
-        let path = format!(in rt.alloc(); "{prefix}{lane:02}")?;
+    pub fn create(rt: &HostRuntime, path: String) -> anyhow::Result<LaneFile> {
         let file = File::create(rt, path.as_str()).context(format_args!("making {path}"))?;
         Ok(LaneFile {
             out: BufWriter::new(rt.alloc(), file)?,
@@ -25,13 +24,20 @@ impl LaneFile {
 
     pub fn append(&mut self, octets: &[u8]) -> anyhow::Result<()> {
         self.digest.update(octets);
-        self.out.write_all(octets)?;
-        Ok(())
+        self.out
+            .write_all(octets)
+            .context(format_args!("writing {}", self.path))
     }
 
-    // Closes the file, and prints its digest and its name as the program sha256sum does.
-    pub fn finish(mut self, rt: &HostRuntime) -> anyhow::Result<()> {
-        self.out.flush()?;
+    // Hands what is buffered to the system.
+    pub fn flush(&mut self) -> anyhow::Result<()> {
+        self.out
+            .flush()
+            .context(format_args!("writing {}", self.path))
+    }
+
+    // Prints the file's digest and its name as the program sha256sum does.
+    pub fn print(self, rt: &HostRuntime) -> anyhow::Result<()> {
         let digest = self.digest.finalize();
         let text = hex::encode(rt.alloc(), &digest)?;
         println!(rt; "{text}  {}", self.path)?;

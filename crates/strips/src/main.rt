@@ -1,7 +1,7 @@
 // Makes strips: sends the blocks of a file or of standard input, and writes the bits of each lane to a file of its own.
 #![tactic(auto)]
 
-use anyhow::{Context, bail};
+use anyhow::{Context, bail, ensure};
 use arguments::{Arguments, RateName};
 use lane_file::LaneFile;
 use lanes::{Rate, Rate200, Rate400, RateShort};
@@ -21,16 +21,16 @@ const RECORD_BYTES: u64 = 9;
 // What was sent, up to a refusal or to the end of the input.
 #[derive(Clone, Copy)]
 struct Sent {
-    pairs: u64,
-    blocks: u64,
+    pairs: usize,
+    blocks: usize,
     refused: Option<Refusal>,
 }
 
 // The refusal with the place of a kind counted from the first record of the input, of which so many went before.
-fn placed(refusal: Refusal, before: u64) -> Refusal {
+fn placed(refusal: Refusal, before: usize) -> Refusal {
     match refusal {
         Refusal::Blocks(blocks::Refusal::Kind(index)) => {
-            Refusal::Blocks(blocks::Refusal::Kind(index.saturating_add(before as usize)))
+            Refusal::Blocks(blocks::Refusal::Kind(before.saturating_add(index)))
         }
         other => other,
     }
@@ -50,13 +50,14 @@ fn send_all<R: Rate>(
     };
     let mut records = Vec::new(rt.alloc());
     let mut strip = [0; STRIP_BYTES];
-    for _ in 0..u64::MAX {
+    for _ in 0u64.. {
         records.clear();
-        let count = sender.block_count() as u64;
+        let count = sender.block_count();
         let n = input
             .by_ref()
-            .take(RECORD_BYTES.saturating_mul(count))
-            .read_to_end(&mut records)?;
+            .take(RECORD_BYTES.saturating_mul(count as u64))
+            .read_to_end(&mut records)
+            .context("reading the blocks")?;
         if n == 0 {
             break;
         }
@@ -82,6 +83,22 @@ fn refuse(rt: &HostRuntime, refusal: Refusal) -> anyhow::Result<()> {
     bail!("refused");
 }
 
+// The names of the lanes' files, of which none may be the file of blocks.
+fn paths<R: Rate>(rt: &HostRuntime, arguments: &Arguments) -> anyhow::Result<Vec<String>> {
+    let mut paths = Vec::new(rt.alloc());
+    for lane in 0..R::LANES {
+        let path = format!(in rt.alloc(); "{}{lane:02}", arguments.prefix)?;
+        if let Some(blocks) = &arguments.blocks {
+            ensure!(
+                *blocks != path,
+                "{path} has the blocks, and would be written over"
+            );
+        }
+        paths.push(path)?;
+    }
+    Ok(paths)
+}
+
 // Sends what the input has at a rate, and prints what was sent.
 fn make_strips<R: Rate>(
     rt: &HostRuntime,
@@ -93,16 +110,19 @@ fn make_strips<R: Rate>(
         Err(refusal) => return refuse(rt, refusal),
     };
     let mut files = Vec::new(rt.alloc());
-    for lane in 0..R::LANES {
-        files.push(LaneFile::create(rt, arguments.prefix.as_str(), lane)?)?;
+    for path in paths::<R>(rt, arguments)? {
+        files.push(LaneFile::create(rt, path)?)?;
     }
     let sent = send_all(rt, &mut sender, input, &mut files)?;
-    let bits = sent.pairs.saturating_mul(10880 / R::LANES as u64);
+    for file in files.iter_mut() {
+        file.flush()?;
+    }
+    let bits = sent.pairs.saturating_mul(8 * STRIP_BYTES / R::LANES);
     println!(rt; "pairs {}", sent.pairs)?;
     println!(rt; "blocks {}", sent.blocks)?;
     println!(rt; "bits a lane {bits}")?;
     for file in files {
-        file.finish(rt)?;
+        file.print(rt)?;
     }
     sent.refused.map_or(Ok(()), |refusal| refuse(rt, refusal))
 }
