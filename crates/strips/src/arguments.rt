@@ -1,5 +1,5 @@
 // The arguments: what to send by, where to write, and where the blocks come from.
-use anyhow::{Context, anyhow, bail};
+use anyhow::{Context, bail};
 use std::env;
 use std::str::FromStr;
 
@@ -11,6 +11,9 @@ pub enum RateName {
     Rate400,
     Short,
 }
+
+#[derive(Clone, Copy, PartialEq, Eq, Debug)]
+pub struct UnknownRate;
 
 #[derive(Drop)]
 pub struct Arguments {
@@ -24,12 +27,16 @@ pub struct Arguments {
     pub blocks: Option<String>,
 }
 
-fn rate(text: &str) -> anyhow::Result<RateName> {
-    match text {
-        "200" => Ok(RateName::Rate200),
-        "400" => Ok(RateName::Rate400),
-        "short" => Ok(RateName::Short),
-        _ => Err(anyhow!(USAGE)),
+impl FromStr for RateName {
+    type Err = UnknownRate;
+
+    fn from_str(text: &str) -> Result<RateName, UnknownRate> {
+        match text {
+            "200" => Ok(RateName::Rate200),
+            "400" => Ok(RateName::Rate400),
+            "short" => Ok(RateName::Short),
+            _ => Err(UnknownRate),
+        }
     }
 }
 
@@ -50,7 +57,7 @@ impl Arguments {
     pub fn read(rt: &HostRuntime) -> anyhow::Result<Arguments> {
         let mut words = env::args(rt)?.skip(1);
         let mut next = || words.next().context(USAGE);
-        let rate = rate(next()?.as_str())?;
+        let rate = next()?.as_str().parse().ok().context(USAGE)?;
         let scramble = number(next()?.as_str())?;
         let pad = number(next()?.as_str())?;
         let status = number(next()?.as_str())?;
