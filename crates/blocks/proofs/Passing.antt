@@ -16,7 +16,7 @@ words_snoc xs x = words_append xs (x ∷ []) ∙ ap (λ (l : List ℕ). words xs
 words_set : (ys : List ℕ) (n y : ℕ) → n < length ys → words (take (n + 1) (set ys n y)) ≡ words (take n ys) ++ field y 0 64
 words_set ys n y h = ap words (take_more_set ys n y h) ∙ words_snoc (take n ys) y
 
-words_more : (xs : List ℕ) (n : ℕ) → n < length xs → words (take (n + 1) xs) ≡ words (take n xs) ++ field (get_or xs n 0) 0 64
+pub words_more : (xs : List ℕ) (n : ℕ) → n < length xs → words (take (n + 1) xs) ≡ words (take n xs) ++ field (get_or xs n 0) 0 64
 words_more xs n h = ap words (ap (λ (k : ℕ). take k xs) (add-one n) ∙ take-suc xs n 0 h) ∙ words_snoc (take n xs) (get_or xs n 0)
 
 -- Bit f gave bit g, and the first n words of xs gave those of ys: a memory m came to the memory `now`.

@@ -1,5 +1,5 @@
 -- Bits put one after another, and symbols out of them.
-use Rattle.std.proofs.Common.{◌≡◌, ℕ, zero, suc, ◌+◌, ◌-◌, ◌*◌, ◌%◌, ◌^◌, ◌<◌, ◌≤◌, List, [], ◌∷◌, ◌++◌, bit_or, fold, length, get_or, reverse, take, drop, sym, refl, ap, ◌∙◌, subst, ap₂, append_assoc, append-nil, zero-add, arith, pow_mono, length-append, length-drop}
+use Rattle.std.proofs.Common.{◌≡◌, ℕ, suc, ◌+◌, ◌-◌, ◌*◌, ◌%◌, ◌^◌, ◌<◌, ◌≤◌, List, [], ◌∷◌, ◌++◌, bit_or, fold, length, get_or, reverse, take, drop, sym, refl, ap, ◌∙◌, subst, ap₂, append_assoc, zero-add, arith, pow_mono, length-append, length-drop}
 use borrow.Rule.Slice.PartMut.{put_mid, mid_of}
 use Rattle.std.proofs.lemmas.Grind.{reverse_onto, or_after_shift}
 use Rattle.std.proofs.lemmas.List.{ext_get_or, take_at, take_all, length-take-le}
@@ -37,13 +37,6 @@ field_put n m x bits part h l e =
 pub length-words : (ps : List ℕ) → length (words ps) ≡ 64 * length ps
 length-words [] = refl
 length-words (p ∷ ps) = length-append (field p 0 64) (words ps) ∙ ap₂ (λ (i j : ℕ). i + j) (length-field p 0 64) (length-words ps) ∙ omega arith
-
--- one word more
-pub words_more : (ps : List ℕ) (k : ℕ) → k < length ps → words (take (suc k) ps) ≡ words (take k ps) ++ field (get_or ps k 0) 0 64
-words_more [] k h = absurd (omega arith)
-words_more (p ∷ ps) zero h = append-nil (field p 0 64)
-words_more (p ∷ ps) (suc k) h =
-    ap (λ (bs : List ℕ). field p 0 64 ++ bs) (words_more ps k (omega arith)) ∙ sym (append_assoc (field p 0 64) (words (take k ps)) (field (get_or ps k 0) 0 64))
 
 -- a list by its places
 pub symbols_all : (xs : List ℕ) (f : ℕ → ℕ) (n : ℕ) → length xs ≡ n → ((k : ℕ) → k < n → get_or xs k 0 ≡ f k) → xs ≡ table n f

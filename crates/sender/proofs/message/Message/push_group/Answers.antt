@@ -1,8 +1,9 @@
-use Rattle.std.proofs.Common.{◌≡◌, ℕ, suc, ◌+◌, ◌*◌, List, [], ◌∷◌, ◌++◌, length, get_or, take, sym, ap, ◌∙◌, append_assoc, add-one, arith, rules, length-take-le}
+use Rattle.std.proofs.Common.{◌≡◌, ℕ, suc, ◌+◌, ◌*◌, List, [], ◌∷◌, ◌++◌, length, get_or, take, sym, ap, ◌∙◌, append_assoc, arith, rules, length-take-le}
 use Rattle.std.proofs.lemmas.List.{take_all}
 use Rattle.blocks.specs.Bits.{field}
 use Rattle.blocks.specs.Groups.{words, one_if}
-use Rattle.sender.proofs.Messaged.{put_length, length-words, words_more}
+use Rattle.blocks.proofs.Passing.{words_more}
+use Rattle.sender.proofs.Messaged.{put_length, length-words}
 use Rattle.sender.proofs.message.Message.push_group.Goals as goal
 
 pub loop-part-init : goal.loop-part-init
@@ -27,7 +28,7 @@ loop-part-preserved c =
     let old : List ℕ = c.args.self.now in
     let word : List ℕ = field (get_or ps k 0) 0 64 in
     c.push_bits.ensures ∙ ap (λ (bs : List ℕ). bs ++ word) c.loop-part.invariant ∙ append_assoc old (f ∷ words (take k ps)) word
-    ∙ ap (λ (ws : List ℕ). old ++ (f ∷ ws)) (sym (ap (λ (j : ℕ). words (take j ps)) (add-one k) ∙ words_more ps k (omega arith)))
+    ∙ ap (λ (ws : List ℕ). old ++ (f ∷ ws)) (sym (words_more ps k (omega arith)))
 
 pub returns : goal.returns
 returns c =
