@@ -1,4 +1,7 @@
 // The first pair of a sender, read off its lanes.
+ghost use Rattle.std.specs.Prelude.{◌≡◌};
+ghost use Rattle.example_words.specs.Rows.{character, four_bits};
+
 use lanes::Rate;
 use sender::Sender;
 use std::array;
@@ -32,17 +35,22 @@ fn symbol(part: &[u8], row: usize) -> u16 {
     )
 }
 
-const HEX: [u8; 16] = *b"0123456789abcdef";
-
 // The digit of four bits, of which the first is the highest.
-fn digit(bits: [u16; 4]) -> u8 {
-    let [a, b, c, d] = bits.map(|bit| usize::from(bit % 2));
-    HEX[8 * a + 4 * b + 2 * c + d]
+fn digit(bits: [u16; 4]) -> u8
+    ensures { result ≡ character (four_bits bits) }
+{
+    let [a, b, c, d] = bits;
+    let value = 8 * (a % 2) + 4 * (b % 2) + 2 * (c % 2) + d % 2;
+    if value < 10 {
+        b'0' + value as u8
+    } else {
+        b'a' + (value - 10) as u8
+    }
 }
 
 impl Pair {
     // The first pair at a rate, all its blocks idle.
-    pub fn sent<R: Rate>() -> anyhow::Result<Pair> {
+    pub(crate) fn sent<R: Rate>() -> anyhow::Result<Pair> {
         let mut sender = Sender::<R>::new(SCRAMBLE, PAD, STATUS)?;
         let records = [IDLE; 144];
         let blocks = sender.block_count().min(144);
@@ -67,7 +75,7 @@ impl Pair {
     }
 
     // Digit n of a row of 257 bits of the message. The first digit has one bit, each of the others four.
-    pub fn message_digit(&self, row: usize, n: usize) -> u8 {
+    pub(crate) fn message_digit(&self, row: usize, n: usize) -> u8 {
         let first = row % 40 * 257;
         digit(array::from_fn(|i| (n % 65 * 4 + i)
             .checked_sub(3)
@@ -75,7 +83,7 @@ impl Pair {
     }
 
     // Digit n of a row of 32 symbols of a word. The highest bit of a symbol comes first.
-    pub fn word_digit(&self, word: usize, row: usize, n: usize) -> u8 {
+    pub(crate) fn word_digit(&self, word: usize, row: usize, n: usize) -> u8 {
         let first = row % 17 * 320 + n % 80 * 4;
         digit(array::from_fn(|i| self.words[word % 2][(first + i) / 10] >> (9 - (first + i) % 10)))
     }

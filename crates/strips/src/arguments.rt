@@ -54,7 +54,7 @@ fn number(text: &str) -> anyhow::Result<u64> {
 }
 
 impl Arguments {
-    pub fn read(rt: &HostRuntime) -> anyhow::Result<Arguments> {
+    pub(crate) fn read(rt: &HostRuntime) -> anyhow::Result<Arguments> {
         let mut words = env::args(rt)?.skip(1);
         let mut next = || words.next().context(USAGE);
         let rate = next()?.as_str().parse().ok().context(USAGE)?;

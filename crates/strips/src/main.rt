@@ -122,7 +122,10 @@ fn make_strips<R: Rate>(
     println!(rt; "blocks {}", sent.blocks)?;
     println!(rt; "bits a lane {bits}")?;
     for file in files {
-        file.print(rt)?;
+        // As the program sha256sum prints a file.
+        let (path, digest) = file.finish();
+        let text = hex::encode(rt.alloc(), &digest)?;
+        println!(rt; "{text}  {path}")?;
     }
     sent.refused.map_or(Ok(()), |refusal| refuse(rt, refusal))
 }
