@@ -4,17 +4,18 @@ use Rattle.std.proofs.lemmas.List.{take-take, drop-drop, get_or-take, get_or-dro
 use Rattle.std.proofs.lemmas.Bool.{eq-eqb, ne_eqb, eqb-true, eqb-false, cases_Bool, lt-ltb, le-ltb}
 use Rattle.std.proofs.lemmas.Result.{err_from_is_err_and}
 use Rattle.std.specs.Simd.{first_chunks}
-use Rattle.blocks.specs.Bits.{number, octet_bits}
+use Rattle.bits.specs.Bits.{number, octet_bits}
 use Rattle.blocks.specs.Groups.{one_if}
 use Rattle.blocks.specs.Blocks.{kind_of, header_of, block_in, blocks_in}
-use Rattle.blocks.specs.Calls.{lowest, kind_above_3, begun, bad_kind, four_refused, answered}
+use Rattle.bits.specs.Lowest.{lowest}
+use Rattle.blocks.specs.Calls.{kind_above_3, begun, bad_kind, four_refused, answered}
 use Rattle.blocks.specs.declared.block.Block.{Block}
 use Rattle.blocks.specs.declared.block.Header.{Header}
 use Rattle.blocks.specs.declared.block.Header.TheVariants.{Zeros, Control, Data, Ones}
 use Rattle.blocks.specs.declared.refusal.Refusal.{Refusal}
 use Rattle.blocks.specs.declared.refusal.Refusal.TheVariants.{Length, Kind}
-use Rattle.blocks.proofs.Lowest.{lowest_past, lowest-found}
-use Rattle.blocks.proofs.Arrays.{chunk_at}
+use Rattle.bits.proofs.Lowest.{lowest_past, lowest-found}
+use Rattle.bits.proofs.Arrays.{chunk_at}
 
 pub wrong_count : {A : Type 0} (a : A) (xs : List ℕ) → (length xs ≡ 36 → ⊥) → Err Length ≡ answered a (four_refused xs)
 unfolding four_refused

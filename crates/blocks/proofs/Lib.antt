@@ -1,9 +1,7 @@
-pub mod Fields
 pub mod Parts
 pub mod Written
-pub mod Bytes
 pub mod Arrays
-pub mod Lowest
+pub mod BadKinds
 pub mod Buffers
 pub mod Reading
 pub mod Returned

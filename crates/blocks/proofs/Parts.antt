@@ -2,9 +2,9 @@
 use Rattle.std.proofs.Common.{◌≡◌, ℕ, zero, suc, ◌+◌, ◌*◌, ◌/◌, ◌%◌, ◌^◌, ◌<◌, List, [], ◌∷◌, ◌++◌, length, get_or, take, drop, sym, refl, ap, ◌∙◌, ap₂, append_assoc, zero-add, arith, length-append}
 use Rattle.std.proofs.lemmas.List.{take_at, drop_at, drop-drop}
 use Rattle.std.proofs.lemmas.Grind.{same_number_lists}
-use Rattle.blocks.specs.Bits.{field, number}
+use Rattle.bits.specs.Bits.{field, number}
 use Rattle.blocks.specs.Groups.{without, with_digit_at, words}
-use Rattle.blocks.proofs.Fields.{length-field, field-append, field_shift, field-mod, field_high, field_join, number-field}
+use Rattle.bits.proofs.Fields.{length-field, field-append, field_shift, field-mod, field_high, field_join, number-field}
 
 -- four bits in front of sixty
 pub carried_bits : (before x : ℕ) → before < 2 ^ 64 → field (x * 16 % 2 ^ 64 + before / 2 ^ 60) 0 64 ≡ field before 60 4 ++ field x 0 60

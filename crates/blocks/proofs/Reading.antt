@@ -1,7 +1,7 @@
 -- The three cases of reading a group back.
 use Rattle.std.proofs.Common.{◌≡◌, ℕ, ◌+◌, ◌*◌, ◌<◌, true, false, eqb, List, [], ◌∷◌, map, length, get_or, take, drop, set, Some, None, Option, MatchOption, sym, refl, ◌∙◌, ap₂, inl, inr, arith}
 use Rattle.std.proofs.lemmas.Bool.{cases_Bool}
-use Rattle.blocks.specs.Bits.{field, number}
+use Rattle.bits.specs.Bits.{field, number}
 use Rattle.blocks.specs.Groups.{blocks_of, read_back, flags_back, flagged, control_back, some_control, first_control_place, some_zero, first_zero_place, high_digit, with_digit_at, words}
 use Rattle.blocks.specs.declared.block.Header.{Header}
 use Rattle.blocks.specs.declared.block.Header.TheVariants.{Zeros, Data, Ones}

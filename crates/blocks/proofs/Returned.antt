@@ -5,14 +5,14 @@ use Rattle.std.specs.Option.{option_map}
 use Rattle.std.proofs.lemmas.Nat.{field_of}
 use Rattle.std.proofs.lemmas.List.{take_at, drop_at, length-set}
 use Rattle.std.proofs.lemmas.Bool.{cases_Bool, eqb-true}
-use Rattle.blocks.specs.Bits.{field, number}
+use Rattle.bits.specs.Bits.{field, number}
 use Rattle.blocks.specs.Blocks.{second_bit, is_control, payload_bits}
 use Rattle.blocks.specs.Groups.{headers, payloads, all_good, some_control, first_control_place, without, with_digit_at, group_bits, types, fitting, high_digit, flagged, some_zero, first_zero_place, blocks_of, control_back, flags_back, read_back}
 use Rattle.blocks.specs.Sound.{among, is_type, payload_at, sound, retyped, put_digit, with_headers, control_comes, comes_back, Payloads, GroupsReturn}
 use Rattle.blocks.specs.declared.block.Header.{Header}
 use Rattle.blocks.specs.declared.block.Header.TheVariants.{Zeros, Control, Data, Ones}
 use Rattle.blocks.specs.declared.block.Block.{Block}
-use Rattle.blocks.proofs.Fields.{length-field, number-field, number-whole}
+use Rattle.bits.proofs.Fields.{length-field, number-field, number-whole}
 use Rattle.blocks.proofs.Reading.{data_read, zero_control, first_zero}
 use Rattle.blocks.proofs.Written.{first_inside}
 use Rattle.blocks.proofs.Parts.{around, take_past, drop_past, without_past, take_in, drop_in}

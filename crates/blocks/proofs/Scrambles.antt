@@ -1,16 +1,8 @@
 -- Laws of the scrambled stream.
-use Rattle.std.proofs.Common.{◌≡◌, ℕ, zero, suc, ◌+◌, ◌<◌, ◌≤◌, List, ◌∷◌, sym, refl, ap, ◌∙◌, ap₂, add-zero, arith}
+use Rattle.std.proofs.Common.{◌≡◌, ℕ, zero, suc, ◌<◌, ◌≤◌, refl, ap, ◌∙◌, ap₂, arith}
 use lib.Bits.{bit_xor, xor_assoc, xor_self, xor_zero_r}
-use Rattle.blocks.specs.Bits.{bit, field, table}
-pub use Rattle.blocks.specs.Joined.{table_same, table-append, length-table, nth-table, before_same, received-same, before-joined, received-joined, after-append, scrambled-append, received-append, descrambled-append}
+pub use Rattle.blocks.specs.Joined.{before_same, received-same, before-joined, received-joined, after-append, scrambled-append, received-append, descrambled-append}
 use Rattle.blocks.specs.Scrambled.{before, scrambled, received, descrambled, Scrambling}
-
-pub field-table : (x i n : ℕ) → field x i n ≡ table n (λ j. bit x (i + j))
-unfolding field table
-field-table x i zero = refl
-field-table x i (suc n) =
-    ap₂ (λ (b : ℕ) (l : List ℕ). b ∷ l) (ap (bit x) (sym (add-zero i)))
-    (field-table x (suc i) n ∙ table_same n (λ j. bit x (suc i + j)) (λ j. bit x (i + suc j)) (λ j l. ap (bit x) (omega arith)))
 
 -- what is received of a scrambled stream is what went out
 received-scrambled : (past xs : ℕ → ℕ) (n k : ℕ) → received past (scrambled past xs) n k ≡ before past xs n k

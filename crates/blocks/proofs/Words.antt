@@ -5,12 +5,13 @@ use lib.Bits.{bit_xor, xor_assoc, xor_comm, xor_zero_r, xor_shr, xor_mod, xor_sh
 use Rattle.std.proofs.lemmas.Nat.{shr-shr, pow-add, pow_pos, shl-shr, mod_low, shr_high, mul-mod_first}
 use Rattle.std.specs.Int.{reverse_bits_onto}
 use Rattle.std.proofs.lemmas.Bool.{cases_lt}
-use Rattle.blocks.specs.Bits.{bit, field, table, nth}
+use Rattle.bits.specs.Bits.{bit, field, table, nth}
 use Rattle.blocks.specs.Scrambled.{before, scrambled, received, descrambled, scrambled_bits, scrambler_after, descrambled_bits, descrambler_after, memory_in}
 use Rattle.blocks.specs.Groups.{one_if}
 use Rattle.blocks.specs.Taps.{tail, taps}
-use Rattle.blocks.proofs.Fields.{length-field, bit-mod}
-use Rattle.blocks.proofs.Scrambles.{cancel, table_same, nth-table, field-table, before_same, received-same}
+use Rattle.bits.proofs.Fields.{length-field, bit-mod}
+use Rattle.blocks.proofs.Scrambles.{cancel, before_same, received-same}
+use Rattle.bits.proofs.Tables.{table_same, nth-table, field-table}
 
 -- bits of a number
 pub bit-bit_xor : (a b i : ℕ) → bit (bit_xor a b) i ≡ bit_xor (bit a i) (bit b i)

@@ -5,13 +5,13 @@ use Rattle.std.proofs.lemmas.Grind.{or_after_shift}
 use lib.Bits.{bit_or}
 use Rattle.std.proofs.lemmas.List.{take_at, drop_at}
 use Rattle.std.proofs.lemmas.Bool.{cases_Bool, lt-ltb, le-ltb}
-use Rattle.blocks.specs.Bits.{field, number}
+use Rattle.bits.specs.Bits.{field, number}
 use Rattle.blocks.specs.Blocks.{good, is_control, second_bit}
 use Rattle.blocks.specs.Groups.{headers, payloads, all_good, some_control, first_control_place, without, group_bits, blocks_of, words}
 use Rattle.blocks.specs.declared.block.Block.{Block}
 use Rattle.blocks.specs.declared.block.Header.{Header}
 use Rattle.blocks.specs.declared.block.Header.TheVariants.{Zeros, Control, Data, Ones}
-use Rattle.blocks.proofs.Fields.{length-field, field_cons}
+use Rattle.bits.proofs.Fields.{length-field, field_cons}
 
 pub four : {A : Type 0} (xs : List A) (d : A) → length xs ≡ 4 → xs ≡ get_or xs 0 d ∷ get_or xs 1 d ∷ get_or xs 2 d ∷ get_or xs 3 d ∷ []
 four [] d e = absurd (omega arith)

@@ -1,6 +1,6 @@
 -- Blocks: two header bits and 64 payload bits. Assumes nothing.
 use Rattle.std.specs.Prelude.{◌≡◌, ℕ, zero, suc, ◌+◌, ◌*◌, ◌<◌, Bool, true, false, cond, List, [], ◌∷◌, ◌++◌, take, drop, ◌==◌, Result, MatchResult, slice_index}
-use Rattle.blocks.specs.Bits.{field, number, octet_bits, octets}
+use Rattle.bits.specs.Bits.{field, number, octet_bits, octets}
 use Rattle.blocks.specs.declared.block.Header.{Header}
 use Rattle.blocks.specs.declared.block.Header.TheVariants.{Zeros, Control, Data, Ones}
 use Rattle.blocks.specs.declared.block.Block.{Block}

@@ -1,20 +1,12 @@
 -- What the calls on buffers answer and leave. Assumes nothing.
-use Rattle.std.specs.Prelude.{◌≡◌, ℕ, zero, suc, ◌+◌, ◌*◌, ◌/◌, Bool, cond, List, length, is_some, Some, None, Ok, Err, Option, Result, ◌==◌, nat_lt, slice_index}
+use Rattle.std.specs.Prelude.{◌≡◌, ℕ, ◌+◌, ◌*◌, ◌/◌, Bool, cond, List, length, is_some, Some, None, Ok, Err, Option, Result, ◌==◌, nat_lt, slice_index}
 use Rattle.std.specs.Option.{option_map}
 use Rattle.blocks.specs.declared.refusal.Refusal.{Refusal}
 use Rattle.blocks.specs.declared.refusal.Refusal.TheVariants.{Length, Kind}
+use Rattle.bits.specs.Lowest.{lowest}
 use Rattle.blocks.specs.Blocks.{blocks_in, records_of}
 use Rattle.blocks.specs.Groups.{bits_of, group_bits, group_octets, group_bits_in, read_back}
 use Rattle.blocks.specs.declared.group.Group.{Group}
-
-abbrev pub or_else : Option ℕ → Option ℕ → Option ℕ
-or_else (Some i) o = Some i
-or_else None o = o
-
--- the lowest i below n at which f holds
-unfoldable pub lowest : (ℕ → Bool) → ℕ → Option ℕ
-lowest f zero = None
-lowest f (suc n) = or_else (lowest f n) (cond (f n) (Some n) None)
 
 -- records of nine bytes that begin in xs, the last perhaps cut short
 abbrev pub begun : List ℕ → ℕ

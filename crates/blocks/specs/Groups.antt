@@ -1,6 +1,6 @@
 -- Groups of 257 bits: four blocks written, and read back. Assumes nothing.
 use Rattle.std.specs.Prelude.{ℕ, suc, ◌+◌, ◌*◌, ◌/◌, ◌%◌, Bool, true, false, cond, List, [], ◌∷◌, ◌++◌, map, take, drop, Some, None, Option, ◌==◌, slice_index, slice_set}
-use Rattle.blocks.specs.Bits.{bit, field, number, octet_bits, octets}
+use Rattle.bits.specs.Bits.{bit, field, number, octet_bits, octets}
 use Rattle.blocks.specs.Blocks.{second_bit, good, is_control, payload_bits}
 use Rattle.blocks.specs.declared.block.Header.{Header}
 use Rattle.blocks.specs.declared.block.Header.TheVariants.{Zeros, Control, Data, Ones}

@@ -1,33 +1,10 @@
 -- A stream in parts: what the laws of the two directions rest on. Assumes nothing.
-use Rattle.std.proofs.Common.{◌≡◌, ℕ, zero, suc, ◌+◌, ◌<◌, ◌≤◌, List, ◌∷◌, ◌++◌, length, sym, refl, ap, ◌∙◌, ap₂, add-zero, add-suc, suc-add, zero-add, arith, length-append}
+use Rattle.std.proofs.Common.{◌≡◌, ℕ, zero, suc, ◌+◌, ◌<◌, ◌≤◌, List, ◌++◌, length, sym, refl, ap, ◌∙◌, ap₂, add-zero, add-suc, arith, length-append}
 use lib.Bits.{bit_xor}
 use Rattle.std.proofs.lemmas.List.{get_or_append_left, get_or-append-add}
-use Rattle.blocks.specs.Bits.{table, nth}
+use Rattle.bits.specs.Bits.{table, nth}
+use Rattle.bits.proofs.Tables.{table_same, table-append, nth-table}
 use Rattle.blocks.specs.Scrambled.{before, received, scrambled_bits, scrambler_after, descrambled_bits, descrambler_after, InParts}
-
--- tables
-pub table_same : (n : ℕ) (f g : ℕ → ℕ) → ((i : ℕ) → i < n → f i ≡ g i) → table n f ≡ table n g
-unfolding table
-table_same zero f g h = refl
-table_same (suc n) f g h = ap₂ (λ (x : ℕ) (l : List ℕ). x ∷ l) (h 0 (omega arith)) (table_same n (λ i. f (suc i)) (λ i. g (suc i)) (λ i l. h (suc i) (omega arith)))
-
-pub table-append : (m n : ℕ) (f : ℕ → ℕ) → table (m + n) f ≡ table m f ++ table n (λ i. f (m + i))
-unfolding table
-table-append zero n f = rw zero-add (table_same n f (λ i. f (0 + i)) (λ i l. ap f (sym (zero-add i))))
-table-append (suc m) n f =
-    rw suc-add (ap (λ (l : List ℕ). f 0 ∷ l) (table-append m n (λ i. f (suc i))
-    ∙ ap (λ (l : List ℕ). table m (λ i. f (suc i)) ++ l) (table_same n (λ i. f (suc (m + i))) (λ i. f (suc m + i)) (λ i l. ap f (sym (suc-add m i))))))
-
-pub length-table : (n : ℕ) (f : ℕ → ℕ) → length (table n f) ≡ n
-unfolding table
-length-table zero f = refl
-length-table (suc n) f = ap suc (length-table n (λ i. f (suc i)))
-
-pub nth-table : (n : ℕ) (f : ℕ → ℕ) (i : ℕ) → i < n → nth (table n f) i ≡ f i
-unfolding table
-nth-table zero f i l = absurd (omega arith)
-nth-table (suc n) f zero l = refl
-nth-table (suc n) f (suc i) l = nth-table n (λ j. f (suc j)) i (omega arith)
 
 -- A memory that runs: r tells what stands k + 1 places before bit n, and `next` what each bit puts in front.
 record Runs (r : (ℕ → ℕ) → (ℕ → ℕ) → ℕ → ℕ → ℕ) (next : (ℕ → ℕ) → ℕ → ℕ) : Type 0 where

@@ -1,4 +1,3 @@
-pub mod Bits
 pub mod Blocks
 pub mod Groups
 pub mod Calls

@@ -1,6 +1,6 @@
 -- The memories of a scrambler and of a descrambler. Assumes nothing.
 use Rattle.std.specs.Prelude.{◌≡◌, ℕ, ◌^◌, ◌<◌, ◌≤◌, List, Ok, Err, Result}
-use Rattle.blocks.specs.Bits.{field}
+use Rattle.bits.specs.Bits.{field}
 use Rattle.blocks.specs.Scrambled.{memory_in}
 use Rattle.blocks.specs.declared.memory.Stream.{Stream}
 use Rattle.blocks.specs.declared.memory.Sent.{Sent}

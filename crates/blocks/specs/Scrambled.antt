@@ -1,6 +1,6 @@
 -- The scrambled stream and its reverse. Assumes nothing.
 use Rattle.std.specs.Prelude.{◌≡◌, ℕ, zero, suc, ◌+◌, ◌-◌, ◌≤◌, List, ◌++◌, length, bit_xor}
-use Rattle.blocks.specs.Bits.{bit, table, nth}
+use Rattle.bits.specs.Bits.{bit, table, nth}
 
 -- The bit that went out k + 1 places before bit n of a stream xs; `past` has those before the first. Each bit goes out
 -- xored with the output bits 39 and 58 before it.

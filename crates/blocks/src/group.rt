@@ -1,6 +1,6 @@
 // Groups of 257 bits: four blocks written, and read back.
 ghost use Rattle.std.specs.Prelude.{◌≡◌, ◌+◌, ◌*◌, ◌/◌, ◌%◌, ◌^◌, ◌<◌, ◌++◌, map, drop, position};
-ghost use Rattle.blocks.specs.Bits.{field, number};
+ghost use Rattle.bits.specs.Bits.{field, number};
 ghost use Rattle.blocks.specs.Blocks.{is_control, second_bit};
 ghost use Rattle.blocks.specs.Groups.{headers, payloads, all_good, without, with_digit_at, high_digit, words, bits_of, group_bits, read_back, flagged, blocks_of};
 ghost use Rattle.blocks.specs.Sound.{is_type, sound};

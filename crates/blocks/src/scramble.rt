@@ -1,6 +1,6 @@
 // Scrambling groups, and reading them back. The stream never restarts: the memory goes on from group to group.
 ghost use Rattle.std.specs.Prelude.{◌≡◌, ◌%◌, ℕ, ◌^◌, ◌<◌, List, [], ◌∷◌};
-ghost use Rattle.blocks.specs.Bits.{field};
+ghost use Rattle.bits.specs.Bits.{field};
 ghost use Rattle.blocks.specs.Groups.{one_if, bits_of};
 ghost use Rattle.blocks.specs.Memories.{memory_of, out_memory, in_memory, Started};
 ghost use Rattle.blocks.specs.Scrambled.{memory_in, scrambled_bits, scrambler_after, descrambled_bits, descrambler_after, InParts, Scrambling};

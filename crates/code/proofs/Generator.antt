@@ -5,7 +5,8 @@ use Rattle.field.proofs.WordValues.{value_same}
 use Rattle.gf1024.specs.Product.{step, product, times}
 use Rattle.gf1024.specs.Field.{sums, products, group, ring, alpha, element}
 use Rattle.gf1024.specs.ElementsLemmas.{same}
-use Rattle.gf1024.specs.Tests.{every, every_at}
+use Rattle.bits.specs.Every.{every}
+use Rattle.bits.proofs.Every.{passes_at}
 use Rattle.code.specs.declared.encoder.TheConstants.{GENERATOR}
 use Rattle.code.specs.Code.{root, by_factor, generator}
 use Rattle.code.specs.Division.{tap}
@@ -28,7 +29,7 @@ unfolding coefficient
 coefficients_small = tt
 
 pub tap-small : (j : ℕ) → j < 30 → tap j < 1024
-tap-small j l = rw (← coefficient_is j) (ltb→lt (coefficient j) 1024 (every_at (λ j. ltb (coefficient j) 1024) 30 coefficients_small j l))
+tap-small j l = rw (← coefficient_is j) (ltb→lt (coefficient j) 1024 (passes_at (λ j. ltb (coefficient j) 1024) 30 coefficients_small j l))
 
 taps_hold : ℕ → Bool
 taps_hold k = eqb (word_value sums products 30 (λ j. coefficient j % 1024) (root k)) (pow products (root k) 30)
@@ -43,5 +44,5 @@ taps k l =
     same _ _
     (value_of 30 (λ j. element (tap j)) (pow ring alpha k) ∙ ap (word_value sums products 30 (λ j. tap j % 1024)) (power_value alpha k)
     ∙ value_same sums products 30 (λ j. tap j % 1024) (λ j. coefficient j % 1024) (root k) (λ j h. ap (λ c. c % 1024) (sym (coefficient_is j)))
-    ∙ eqb→eq _ _ (every_at taps_hold 30 all_hold k l)
+    ∙ eqb→eq _ _ (passes_at taps_hold 30 all_hold k l)
     ∙ sym (power_value (pow ring alpha k) 30 ∙ ap (λ x. pow products x 30) (power_value alpha k)))

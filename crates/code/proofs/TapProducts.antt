@@ -4,7 +4,8 @@ use lib.Bits.{bit_xor, xor_comm, xor_shifted}
 use Rattle.gf1024.specs.Product.{step, product, times}
 use Rattle.gf1024.specs.Laws.{times_sum_left, times_sum_right}
 use Rattle.gf1024.specs.Linear.{at_zero}
-use Rattle.gf1024.specs.Tests.{every, every_at}
+use Rattle.bits.specs.Every.{every}
+use Rattle.bits.proofs.Every.{passes_at}
 use Rattle.code.specs.Code.{generator}
 use Rattle.code.specs.Division.{tap}
 use Rattle.code.specs.declared.products.TheConstants.{LOW, HIGH}
@@ -24,7 +25,7 @@ all_fit rows f = every (λ a. every (fits rows f a) 32) 32
 fit_at : (rows : List (List ℕ)) (f : ℕ → ℕ) → T (all_fit rows f) → (a p : ℕ) → a < 32 → p < 32 → entry rows a p ≡ times (f a) (tap p)
 unfolding all_fit fits
 fit_at rows f t a p ha hp =
-    eqb→eq (entry rows a p) (times (f a) (coefficient p)) (every_at (fits rows f a) 32 (every_at (λ a. every (fits rows f a) 32) 32 t a ha) p hp) ∙ ap (times (f a)) (coefficient_is p)
+    eqb→eq (entry rows a p) (times (f a) (coefficient p)) (passes_at (fits rows f a) 32 (passes_at (λ a. every (fits rows f a) 32) 32 t a ha) p hp) ∙ ap (times (f a)) (coefficient_is p)
 
 lows_fit : T (all_fit LOW (λ a. a))
 unfolding all_fit fits coefficient times product step

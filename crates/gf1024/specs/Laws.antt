@@ -6,7 +6,8 @@ use Rattle.gf1024.specs.Closed.{step_lt, inverse_lt}
 use Rattle.gf1024.specs.Linear.{agree, Additive}
 use Rattle.gf1024.specs.Bilinear.{step_sum, product_sum_left, product_sum_right}
 use Rattle.gf1024.specs.Order.{shifted_add, whole}
-use Rattle.gf1024.specs.Tests.{every, every_at}
+use Rattle.bits.specs.Every.{every}
+use Rattle.bits.proofs.Every.{passes_at}
 
 pub times_sum_left : (c : ℕ) → Additive (λ a. times a c)
 unfolding times
@@ -22,7 +23,7 @@ pairs f n = every (λ i. every (λ j. f (2 ^ i) (2 ^ j)) n) n
 
 pairs_at : (f : ℕ → ℕ → Bool) (n : ℕ) → T (pairs f n) → (i j : ℕ) → i < n → j < n → T (f (2 ^ i) (2 ^ j))
 unfolding pairs
-pairs_at f n t i j h k = every_at (λ j. f (2 ^ i) (2 ^ j)) n (every_at (λ i. every (λ j. f (2 ^ i) (2 ^ j)) n) n t i h) j k
+pairs_at f n t i j h k = passes_at (λ j. f (2 ^ i) (2 ^ j)) n (passes_at (λ i. every (λ j. f (2 ^ i) (2 ^ j)) n) n t i h) j k
 
 commutes : ℕ → ℕ → Bool
 commutes a b = times a b == times b a
@@ -50,7 +51,7 @@ all_ones = tt
 
 pub one_times : (a : ℕ) → a < 1024 → times 1 a ≡ a
 unfolding ones
-one_times a h = agree (times 1) (λ x. x) (times_sum_right 1) (λ x y. refl) 10 (λ i l. eqb→eq (times 1 (2 ^ i)) (2 ^ i) (every_at ones 10 all_ones i l)) a h
+one_times a h = agree (times 1) (λ x. x) (times_sum_right 1) (λ x y. refl) 10 (λ i l. eqb→eq (times 1 (2 ^ i)) (2 ^ i) (passes_at ones 10 all_ones i l)) a h
 
 associates : ℕ → ℕ → ℕ → Bool
 associates a b c = times (times a b) c == times a (times b c)
@@ -66,7 +67,7 @@ associate_at : (i j k : ℕ) → i < 10 → j < 10 → k < 10 → times (times (
 unfolding associates triples
 associate_at i j k h l m =
     eqb→eq (times (times (2 ^ i) (2 ^ j)) (2 ^ k)) (times (2 ^ i) (times (2 ^ j) (2 ^ k)))
-    (pairs_at (associates (2 ^ i)) 10 (every_at triples 10 all_associate i h) j k l m)
+    (pairs_at (associates (2 ^ i)) 10 (passes_at triples 10 all_associate i h) j k l m)
 
 both_sums : (f g : ℕ → ℕ) → Additive f → Additive g → Additive (λ x. f (g x))
 both_sums f g hf hg x y = ap f (hg x y) ∙ hf (g x) (g y)
@@ -96,7 +97,7 @@ all_invert = tt
 pub times_inverse : (a : ℕ) → 0 < a → a < 1024 → times a (inverse a) ≡ 1
 unfolding inverts
 times_inverse zero l h = absurd (omega arith)
-times_inverse (suc a) l h = eqb→eq (times (suc a) (inverse (suc a))) 1 (every_at inverts 1023 all_invert a (omega arith))
+times_inverse (suc a) l h = eqb→eq (times (suc a) (inverse (suc a))) 1 (passes_at inverts 1023 all_invert a (omega arith))
 
 moves : ℕ → ℕ → Bool
 moves a b = times (step 9 1033 a) b == step 9 1033 (times a b)
@@ -143,7 +144,7 @@ all_twice = tt
 
 pub times_two : (a : ℕ) → a < 1024 → times 2 a ≡ step 9 1033 a
 unfolding twice_at
-times_two a h = agree (times 2) (step 9 1033) (times_sum_right 2) (step_sum 9 1033) 10 (λ i l. eqb→eq (times 2 (2 ^ i)) (step 9 1033 (2 ^ i)) (every_at twice_at 10 all_twice i l)) a h
+times_two a h = agree (times 2) (step 9 1033) (times_sum_right 2) (step_sum 9 1033) 10 (λ i l. eqb→eq (times 2 (2 ^ i)) (step 9 1033 (2 ^ i)) (passes_at twice_at 10 all_twice i l)) a h
 
 pub shifted_suc : (n a : ℕ) → shifted (suc n) a ≡ step 9 1033 (shifted n a)
 shifted_suc zero a = refl

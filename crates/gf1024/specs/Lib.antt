@@ -7,4 +7,3 @@ pub mod Laws
 pub mod Linear
 pub mod Bilinear
 pub mod Order
-pub mod Tests

@@ -3,7 +3,7 @@ use Rattle.std.specs.Prelude.{◌≡◌, ℕ, zero, suc, ◌+◌, ◌-◌, ◌*�
 use Rattle.std.proofs.Common.{sym, ◌∙◌, ap, not-suc-le-zero, le_of_suc-le-suc, zero-add, suc-add, arith, T_not}
 use Rattle.std.proofs.Math.Dec.{eqb_refl}
 use Rattle.gf1024.specs.Product.{step, shifted}
-use Rattle.gf1024.specs.Tests.{both_left, both_right}
+use Rattle.bits.proofs.Every.{both_left, both_right}
 
 pub shifted_add : (m n a : ℕ) → shifted (m + n) a ≡ shifted n (shifted m a)
 shifted_add zero n a = ap (λ k. shifted k a) (zero-add n)

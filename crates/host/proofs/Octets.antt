@@ -6,9 +6,9 @@ use Rattle.std.specs.List.{flat_map}
 use Rattle.std.specs.Simd.{first_chunks}
 use mir.Syntax.{w16}
 use Rattle.std.proofs.lemmas.Bool.{eq-eqb, eqb-true, cases_Bool}
-use Rattle.blocks.specs.Bits.{table}
-use Rattle.blocks.proofs.Arrays.{chunk_at}
-use Rattle.blocks.proofs.Scrambles.{length-table, nth-table}
+use Rattle.bits.specs.Bits.{table}
+use Rattle.bits.proofs.Arrays.{chunk_at}
+use Rattle.bits.proofs.Tables.{length-table, nth-table}
 use Rattle.host.specs.Crossing.{symbol_at, symbols_in}
 
 symbols_table : (xs : List ℕ) (n : ℕ) → length xs ≡ 2 * n → symbols_in xs ≡ table n (symbol_at xs)

@@ -1,6 +1,6 @@
 -- How symbols cross to C: two octets each, the low octet first. Assumes nothing.
 use Rattle.std.specs.Prelude.{ℕ, ◌+◌, ◌*◌, ◌/◌, ◌%◌, cond, List, [], length, ◌==◌, slice_index}
-use Rattle.blocks.specs.Bits.{table}
+use Rattle.bits.specs.Bits.{table}
 
 abbrev pub symbol_at : List ℕ → ℕ → ℕ
 symbol_at xs i = slice_index xs (2 * i) + 256 * slice_index xs (2 * i + 1)

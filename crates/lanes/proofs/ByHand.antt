@@ -1,6 +1,6 @@
 -- The cases worked out by hand, by computation.
 use Rattle.std.proofs.Common.{refl}
-use Rattle.blocks.specs.Bits.{field, number, octet_bits, table}
+use Rattle.bits.specs.Bits.{field, number, octet_bits, table}
 use Rattle.blocks.specs.Groups.{group_bits, read_back, flags_back, control_back, high_digit, types}
 use Rattle.blocks.specs.Scrambled.{before}
 use Rattle.gf1024.specs.Product.{times, product, step}

@@ -7,7 +7,7 @@ use Rattle.std.proofs.lemmas.Bool.{eqb-true}
 use Rattle.std.proofs.lemmas.Bool.Decides.{nat_tests}
 use Rattle.lanes.specs.Folds.{folded, octets_of, lowest_bits}
 use Rattle.lanes.specs.Markers.{nibble, unequal, wrong}
-use Rattle.lanes.specs.Every.{every_two_at}
+use Rattle.bits.proofs.Every.{every_two_at}
 use Rattle.lanes.specs.declared.marker.Part.{Part}
 use Rattle.lanes.specs.declared.marker.Part.TheVariants.{Shared, Own}
 

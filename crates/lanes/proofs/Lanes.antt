@@ -3,9 +3,9 @@ use Rattle.std.proofs.Common.{◌≡◌, ℕ, ◌<◌, ◌≤◌, Bool, true, fa
 use Rattle.std.specs.Prelude.{MatchOption}
 use Rattle.std.proofs.lemmas.Grind.{common_steps}
 use Rattle.std.proofs.lemmas.Bool.{lt-ltb, le-ltb, ltb-true, and_parts}
-use Rattle.blocks.specs.Bits.{nth}
-use Rattle.blocks.specs.Calls.{lowest}
-use Rattle.blocks.proofs.Lowest.{lowest-found, lowest_none}
+use Rattle.bits.specs.Bits.{nth}
+use Rattle.bits.specs.Lowest.{lowest}
+use Rattle.bits.proofs.Lowest.{lowest-found, lowest_none}
 use Rattle.lanes.specs.Markers.{marker_at, octets_number, nibble, wrong, shared, own, near, passes}
 use Rattle.lanes.specs.Rates.{Lawful}
 use Rattle.lanes.proofs.Numbers.{own_by_number, shared_by_form, sent_near}

@@ -2,9 +2,9 @@
 use Rattle.std.proofs.Common.{◌≡◌, ℕ, suc, ◌+◌, ◌-◌, ◌*◌, ◌/◌, ◌%◌, ◌^◌, ◌<◌, ◌≤◌, List, [], ◌∷◌, ◌++◌, length, take, drop, replicate, sym, refl, ap, ◌∙◌, ap₂, arith}
 use Rattle.std.proofs.lemmas.List.{drop_all}
 use Rattle.std.proofs.lemmas.Grind.{common_steps}
-use Rattle.blocks.specs.Bits.{field, number, octet_bits, table, nth}
-use Rattle.blocks.proofs.Fields.{length-field, field_join, take-field, drop-field, number-field}
-use Rattle.blocks.proofs.Scrambles.{length-table, nth-table}
+use Rattle.bits.specs.Bits.{field, number, octet_bits, table, nth}
+use Rattle.bits.proofs.Fields.{length-field, field_join, take-field, drop-field, number-field}
+use Rattle.bits.proofs.Tables.{length-table, nth-table}
 use Rattle.lanes.specs.Markers.{symbol_in, marker_at, marker_bits, octets_number}
 use Rattle.lanes.specs.Rates.{Form, Lawful}
 

@@ -2,8 +2,8 @@
 use Rattle.std.proofs.Common.{◌≡◌, ℕ, zero, suc, ◌+◌, ◌*◌, ◌/◌, ◌%◌, ◌<◌, true, List, [], ◌∷◌, sym, refl, ap, ◌∙◌, arith, rules}
 use Rattle.std.proofs.lemmas.Nat.{shr-shr}
 use Rattle.std.proofs.lemmas.Bool.{lt-ltb, le-leb, eq-eqb}
-use Rattle.blocks.specs.Bits.{table, nth}
-use Rattle.blocks.proofs.Scrambles.{nth-table}
+use Rattle.bits.specs.Bits.{table, nth}
+use Rattle.bits.proofs.Tables.{nth-table}
 use Rattle.lanes.specs.Markers.{marker_at, octets_number, nibble, nibble_of, wrong, shared, own, near}
 use Rattle.lanes.specs.Rates.{Form}
 

@@ -1,8 +1,8 @@
 -- A step of the pad generator.
 use Rattle.std.proofs.Common.{◌≡◌, ℕ, ◌+◌, ◌*◌, ◌/◌, ◌%◌, ◌^◌, ◌<◌, List, ◌∷◌, sym, refl, ap, ◌∙◌, ap₂, arith}
 use lib.Bits.{bit_xor, xor_mod}
-use Rattle.blocks.specs.Bits.{field, table, nth}
-use Rattle.blocks.proofs.Fields.{field_cons, field_low}
+use Rattle.bits.specs.Bits.{field, table, nth}
+use Rattle.bits.proofs.Fields.{field_cons, field_low}
 use Rattle.lanes.specs.Pads.{pad_before, pad_bit}
 
 pub pad_next : (m : ℕ) → bit_xor (m / 16) (m / 256) % 2 ≡ pad_bit (nth (field m 0 9)) 0

@@ -2,7 +2,7 @@
 use Rattle.std.proofs.Common.{◌≡◌, ℕ, zero, suc, ◌+◌, ◌-◌, ◌*◌, ◌<◌, ◌≤◌, Bool, false, None, sym, refl, ap, ◌∙◌, add-zero, add-suc, mul-zero, mul-one, mul-add, add-one, arith}
 use Rattle.std.proofs.lemmas.Bool.{lt-ltb}
 use Rattle.std.proofs.lemmas.Bool.Decides.{nat_tests}
-use Rattle.blocks.specs.Calls.{lowest}
+use Rattle.bits.specs.Lowest.{lowest}
 use Rattle.lanes.specs.Locks.{next_lock, lock_event}
 use Rattle.lanes.specs.LockRules.{after, event_after, LockRules}
 use Rattle.lanes.specs.declared.lock.Lock.{Lock}

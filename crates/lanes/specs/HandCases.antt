@@ -1,6 +1,6 @@
 -- Cases that were worked out by hand, beside what the definitions give. Assumes nothing.
 use Rattle.std.specs.Prelude.{◌≡◌, ℕ, cond, List, [], ◌∷◌, take, drop, Some, None, Option, ◌==◌}
-use Rattle.blocks.specs.Bits.{field, number, octet_bits, table, nth}
+use Rattle.bits.specs.Bits.{field, number, octet_bits, table, nth}
 use Rattle.blocks.specs.Groups.{group_bits, read_back, high_digit}
 use Rattle.blocks.specs.Scrambled.{scrambled}
 use Rattle.blocks.specs.Sound.{among, payload_at}

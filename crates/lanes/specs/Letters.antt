@@ -1,6 +1,6 @@
 -- The letters a, b, u, v, w of each lane's marker. Assumes nothing.
 use Rattle.std.specs.Prelude.{ℕ, List, [], ◌∷◌, slice_index_or}
-use Rattle.blocks.specs.Bits.{nth}
+use Rattle.bits.specs.Bits.{nth}
 use Rattle.lanes.specs.Markers.{marker_of}
 
 abbrev pub letters_eight : List (List ℕ)

@@ -8,4 +8,3 @@ pub mod Faults
 pub mod Pads
 pub mod HandCases
 pub mod Tables
-pub mod Every

@@ -1,6 +1,6 @@
 -- What the lock machine does over many ticks. Assumes nothing.
 use Rattle.std.specs.Prelude.{◌≡◌, ℕ, zero, suc, ◌+◌, ◌*◌, ◌<◌, ◌≤◌, Bool, true, false, Some, None}
-use Rattle.blocks.specs.Calls.{lowest}
+use Rattle.bits.specs.Lowest.{lowest}
 use Rattle.lanes.specs.Locks.{next_lock, lock_event}
 use Rattle.lanes.specs.declared.lock.Lock.{Lock}
 use Rattle.lanes.specs.declared.lock.Lock.TheVariants.{Searching, Waiting, Locked}

@@ -1,6 +1,6 @@
 -- The lock machine of one position. Assumes nothing.
 use Rattle.std.specs.Prelude.{ℕ, ◌+◌, ◌-◌, Bool, false, cond, Some, None, Option, nat_lt}
-use Rattle.blocks.specs.Calls.{lowest}
+use Rattle.bits.specs.Lowest.{lowest}
 use Rattle.lanes.specs.Markers.{passes}
 use Rattle.lanes.specs.declared.lock.Lock.{Lock}
 use Rattle.lanes.specs.declared.lock.Lock.TheVariants.{Searching, Waiting, Locked}

@@ -1,7 +1,7 @@
 -- Alignment markers, and the test of a window for them. Assumes nothing.
 use Rattle.std.specs.Prelude.{◌≡◌, ℕ, zero, suc, ◌+◌, ◌-◌, ◌*◌, ◌/◌, ◌%◌, ◌^◌, ◌<◌, Bool, true, cond, ◌&&◌, List, [], ◌∷◌, take, drop, replicate, Some, Option, ◌==◌, nat_le, nat_lt}
-use Rattle.blocks.specs.Bits.{table, number, octet_bits}
-use Rattle.blocks.specs.Calls.{lowest}
+use Rattle.bits.specs.Bits.{table, number, octet_bits}
+use Rattle.bits.specs.Lowest.{lowest}
 
 -- the marker that has these letters
 abbrev pub marker_of : ℕ → ℕ → ℕ → ℕ → ℕ → List ℕ

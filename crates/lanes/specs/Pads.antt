@@ -1,6 +1,6 @@
 -- The pad bits of the marker blocks. Assumes nothing.
 use Rattle.std.specs.Prelude.{◌≡◌, ℕ, zero, suc, ◌≤◌, List, Ok, Err, Result, bit_xor}
-use Rattle.blocks.specs.Bits.{field}
+use Rattle.bits.specs.Bits.{field}
 use Rattle.blocks.specs.declared.refusal.Refusal.{Refusal}
 use Rattle.blocks.specs.declared.refusal.Refusal.TheVariants.{Start}
 use Rattle.lanes.specs.declared.pad.Pad.{Pad}

@@ -1,6 +1,6 @@
 -- What a rate fixes, and when it is lawful. Assumes nothing.
 use Rattle.std.specs.Prelude.{◌≡◌, ℕ, ◌*◌, ◌/◌, ◌^◌, ◌<◌, ◌≤◌, ◌⊎◌, ◌≢◌}
-use Rattle.blocks.specs.Bits.{table}
+use Rattle.bits.specs.Bits.{table}
 use Rattle.lanes.specs.Markers.{marker_of, nibble_of, wrong, own}
 
 -- the bits of one pair on one lane; a pair of codewords has 10,880

@@ -3,11 +3,12 @@ use Rattle.std.specs.Prelude.{◌≡◌, ℕ, ◌^◌, ◌<◌, ◌≤◌, Bool,
 use Rattle.std.proofs.Common.{sym, inl, inr, arith}
 use Rattle.std.proofs.lemmas.Bool.{ltb-true, lt-ltb, le-ltb}
 use Rattle.std.proofs.lemmas.Bool.Decides.{nat_tests}
-use Rattle.blocks.specs.Bits.{table, nth}
+use Rattle.bits.specs.Bits.{table, nth}
 use Rattle.lanes.specs.Markers.{marker_at, nibble_of, wrong, own}
 use Rattle.lanes.specs.Letters.{lettered, octet_in, letters_eight, letters_sixteen}
 use Rattle.lanes.specs.Rates.{Form, Lawful, marker_period}
-use Rattle.lanes.specs.Every.{every, every_at, every_two, every_two_at}
+use Rattle.bits.specs.Every.{every, every_two}
+use Rattle.bits.proofs.Every.{every_at, every_two_at}
 
 in_order : (ls : List ℕ) → table 15 (nth (lettered ls)) ≡ lettered ls
 unfolding table

@@ -1,6 +1,6 @@
 // The marker test of a window: the last 120 bits of a position, the oldest lowest.
 ghost use Rattle.std.specs.Prelude.{◌≡◌, nat_le};
-ghost use Rattle.blocks.specs.Bits.{nth};
+ghost use Rattle.bits.specs.Bits.{nth};
 ghost use Rattle.lanes.specs.Folds.{folded, octets_of, lowest_bits};
 ghost use Rattle.lanes.specs.Markers.{marker_bits, symbol_in, octets_number, nibble, wrong, passes, found, Only, FindsSent};
 

@@ -1,6 +1,6 @@
 // The pad generator. It stops between markers and goes on at the next.
 ghost use Rattle.std.specs.Prelude.{◌≡◌, ◌<◌};
-ghost use Rattle.blocks.specs.Bits.{table, nth};
+ghost use Rattle.bits.specs.Bits.{table, nth};
 
 use blocks::Refusal;
 

@@ -3,10 +3,10 @@ use Rattle.std.proofs.Common.{◌≡◌, ℕ, ◌+◌, ◌*◌, ◌/◌, ◌<◌
 use Rattle.std.proofs.lemmas.List.{get_or-take, get_or_past}
 use Rattle.std.proofs.lemmas.Bool.{cases_lt}
 use Rattle.std.specs.Simd.{first_chunks}
-use Rattle.blocks.specs.Bits.{number, table, nth}
-use Rattle.blocks.proofs.Scrambles.{length-table, nth-table, table_same}
-use Rattle.blocks.proofs.Arrays.{chunk_at}
-use Rattle.blocks.proofs.Shapes.{binary_none, binary_take, binary_drop}
+use Rattle.bits.specs.Bits.{number, table, nth}
+use Rattle.bits.proofs.Tables.{length-table, nth-table, table_same}
+use Rattle.bits.proofs.Arrays.{chunk_at}
+use Rattle.bits.proofs.Binary.{binary_none, binary_take, binary_drop}
 use Rattle.lanes.specs.Markers.{symbol_in}
 use Rattle.code.specs.Code.{codeword_of}
 use Rattle.code.proofs.Named.{message_begins, length_codeword, codeword_small}

@@ -3,9 +3,10 @@ use Rattle.std.proofs.Common.{◌≡◌, ℕ, ◌+◌, ◌-◌, ◌*◌, ◌/◌
 use Rattle.std.specs.Result.{IsOk}
 use Rattle.std.proofs.lemmas.List.{take_at, drop_at, drop-drop, length-take-le, take-append-drop, get_or-take, get_or-drop}
 use Rattle.std.proofs.lemmas.Bool.{eq-eqb}
-use Rattle.blocks.specs.Bits.{bit, nth}
+use Rattle.bits.specs.Bits.{bit, nth}
 use Rattle.blocks.specs.Blocks.{blocks_in}
-use Rattle.blocks.specs.Calls.{lowest, kind_above_3, begun, bad_kind, four_refused, Grouped}
+use Rattle.bits.specs.Lowest.{lowest}
+use Rattle.blocks.specs.Calls.{kind_above_3, begun, bad_kind, four_refused, Grouped}
 use Rattle.blocks.specs.Groups.{bits_of, group_bits}
 use Rattle.blocks.specs.Memories.{out_memory}
 use Rattle.blocks.specs.Scrambled.{before, memory_in, scrambled_bits, scrambler_after}
@@ -14,8 +15,9 @@ use Rattle.blocks.specs.declared.memory.Sent.{Sent}
 use Rattle.blocks.specs.declared.block.Block.{Block}
 use Rattle.blocks.specs.declared.group.Group.{Group}
 use Rattle.blocks.specs.declared.refusal.Refusal.{Refusal}
-use Rattle.blocks.proofs.Lowest.{none_below, lowest_none}
-use Rattle.blocks.proofs.Scrambles.{table_same, nth-table, scrambled-append, after-append}
+use Rattle.bits.proofs.Lowest.{none_below, lowest_none}
+use Rattle.bits.proofs.Tables.{table_same, nth-table}
+use Rattle.blocks.proofs.Scrambles.{scrambled-append, after-append}
 use Rattle.sender.specs.Messages.{group_at, group_stream}
 use Rattle.sender.proofs.Streams.{blocks_append}
 

@@ -2,13 +2,14 @@
 use Rattle.std.proofs.Common.{◌≡◌, ℕ, zero, suc, ◌+◌, ◌-◌, ◌*◌, ◌%◌, ◌≤◌, Bool, true, false, cond, List, [], ◌∷◌, ◌++◌, length, take, drop, is_some, sym, refl, ap, ◌∙◌, ap₂, inl, inr, append_assoc, add-zero, add-suc, mul-zero, zero-add, mul-one, mul-add, add-one, arith, length-append}
 use native.Mathlib.Nat.{zero-mod, mod-add-mod}
 use Rattle.std.proofs.lemmas.Bool.{cases_Bool}
-use Rattle.blocks.specs.Bits.{field, table, nth}
+use Rattle.bits.specs.Bits.{field, table, nth}
 use Rattle.blocks.specs.Blocks.{blocks_in}
 use Rattle.blocks.specs.Groups.{one_if}
 use Rattle.blocks.specs.Scrambled.{before, scrambled_bits, scrambler_after}
 use Rattle.blocks.specs.declared.block.Block.{Block}
-use Rattle.blocks.proofs.Fields.{length-field}
-use Rattle.blocks.proofs.Scrambles.{table_same, after-append}
+use Rattle.bits.proofs.Fields.{length-field}
+use Rattle.bits.proofs.Tables.{table_same}
+use Rattle.blocks.proofs.Scrambles.{after-append}
 use Rattle.sender.specs.Lines.{Line, started, pair_message, line_after, pad_after, send_refused, blocks_of}
 use Rattle.sender.specs.Messages.{pad_size, group_stream, message}
 use Rattle.lanes.specs.Pads.{pad_before, pad_bit}

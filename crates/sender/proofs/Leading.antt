@@ -3,10 +3,10 @@ use Rattle.std.proofs.Common.{◌≡◌, ℕ, zero, suc, ◌+◌, ◌-◌, ◌*�
 use Rattle.std.proofs.lemmas.Nat.{shr-shr}
 use Rattle.std.proofs.lemmas.List.{take_at, drop_at}
 use Rattle.std.proofs.lemmas.Bool.{cond_both, eqb-true, eqb-false}
-use Rattle.blocks.specs.Bits.{bit, field, number, table, nth}
-use Rattle.blocks.proofs.Fields.{length-field, bit-mod, number-whole}
-use Rattle.blocks.proofs.Scrambles.{table_same, field-table}
-use Rattle.blocks.proofs.Shapes.{binary_field}
+use Rattle.bits.specs.Bits.{bit, field, number, table, nth}
+use Rattle.bits.proofs.Fields.{length-field, bit-mod, number-whole}
+use Rattle.bits.proofs.Tables.{table_same, field-table}
+use Rattle.bits.proofs.Binary.{binary_field}
 use Rattle.lanes.specs.Markers.{symbol_in, marker_at, marker_bits, octets_number}
 use Rattle.lanes.specs.Rates.{Lawful}
 use Rattle.lanes.proofs.MarkerSymbols.{symbol_of_field, marker_field}

@@ -6,11 +6,11 @@ use Rattle.std.proofs.lemmas.List.{ext_get_or, take_at, take_all, length-take-le
 use Rattle.std.proofs.lemmas.List.Sums.{fold-append}
 use Rattle.std.specs.Array.{IsFromFnResult}
 use Rattle.std.specs.Fn.{Called, Mut}
-use Rattle.blocks.specs.Bits.{field, number, table}
+use Rattle.bits.specs.Bits.{field, number, table}
 use Rattle.blocks.specs.Groups.{words}
-use Rattle.blocks.proofs.Bytes.{put_at}
-use Rattle.blocks.proofs.Fields.{length-field}
-use Rattle.blocks.proofs.Scrambles.{length-table, nth-table}
+use Rattle.bits.proofs.Octets.{put_at}
+use Rattle.bits.proofs.Fields.{length-field}
+use Rattle.bits.proofs.Tables.{length-table, nth-table}
 use Rattle.code.proofs.Turns.{each_call}
 use Rattle.sender.specs.Messages.{Bits}
 use Rattle.sender.proofs.Symbols.{number_small}

@@ -1,8 +1,8 @@
 -- The parts of a marker block, put one after another.
 use Rattle.std.proofs.Common.{◌≡◌, ℕ, zero, suc, ◌+◌, ◌*◌, ◌<◌, List, [], ◌∷◌, ◌++◌, sym, ap, ◌∙◌, ap₂, inl, inr, append_assoc, add-one, arith}
 use lib.Bits.{bit_xor}
-use Rattle.blocks.specs.Bits.{field, table, nth}
-use Rattle.blocks.proofs.Scrambles.{table_same, table-append, nth-table}
+use Rattle.bits.specs.Bits.{field, table, nth}
+use Rattle.bits.proofs.Tables.{table_same, table-append, nth-table}
 use Rattle.sender.specs.Messages.{symbol_bits, marker_block_symbol, marker_block, block_size, pad_size}
 use Rattle.sender.specs.Packing.{Lanes}
 use Rattle.lanes.specs.Pads.{pad_before, pad_bit}

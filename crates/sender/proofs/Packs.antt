@@ -3,10 +3,10 @@ use Rattle.std.proofs.Common.{◌≡◌, ℕ, zero, suc, ◌+◌, ◌-◌, ◌*�
 use borrow.Rule.Slice.PartMut.{put_mid}
 use Rattle.std.proofs.lemmas.Grind.{or_after_shift}
 use Rattle.std.proofs.lemmas.List.{take_at, take_all, length-take-le}
-use Rattle.blocks.specs.Bits.{bit, field, octets, table, nth}
-use Rattle.blocks.proofs.Fields.{field_join, field-append, length-field}
-use Rattle.blocks.proofs.Scrambles.{table_same, table-append, field-table, length-table}
-use Rattle.blocks.proofs.Bytes.{octets-append, length-octets, put_at, put_more}
+use Rattle.bits.specs.Bits.{bit, field, octets, table, nth}
+use Rattle.bits.proofs.Fields.{field_join, field-append, length-field}
+use Rattle.bits.proofs.Tables.{table_same, table-append, field-table, length-table}
+use Rattle.bits.proofs.Octets.{octets-append, length-octets, put_at, put_more}
 use Rattle.sender.specs.Strips.{lane_symbol, pair_bit, lane_octets, strip_octets}
 use Rattle.sender.specs.Packing.{four_symbols, quad_bits, Small, Lanes}
 use Rattle.sender.proofs.Messaged.{symbols_all}

@@ -1,6 +1,6 @@
 -- Each bit of the two words has one place on the lanes.
 use Rattle.std.proofs.Common.{◌≡◌, ℕ, ◌+◌, ◌*◌, ◌/◌, ◌%◌, ◌<◌, Bool, true, false, cond, eqb, List, sym, refl, ap, subst, inl, inr, arith}
-use Rattle.blocks.specs.Bits.{bit, nth}
+use Rattle.bits.specs.Bits.{bit, nth}
 use Rattle.sender.specs.Strips.{pair_bit}
 use Rattle.sender.specs.Packing.{Lanes}
 use Rattle.sender.specs.Places.{one_of, row_at, lane_at, word_at, index_at, OneToOne}

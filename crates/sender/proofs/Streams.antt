@@ -2,14 +2,15 @@
 use Rattle.std.proofs.Common.{◌≡◌, ℕ, zero, suc, ◌+◌, ◌-◌, ◌*◌, ◌<◌, ◌≤◌, List, ◌∷◌, ◌++◌, length, take, drop, sym, refl, ap, ◌∙◌, ap₂, append_assoc, append-nil, add-zero, add-suc, suc-add, zero-add, arith, length-append, length-drop}
 use lib.Bits.{bit_xor}
 use Rattle.std.proofs.lemmas.List.{get_or_append_left, take_at, take-append-le, drop_at, drop-append-le, drop-drop, length-take-le, nil_from_length}
-use Rattle.blocks.specs.Bits.{number, octet_bits, table, nth}
+use Rattle.bits.specs.Bits.{number, octet_bits, table, nth}
 use Rattle.blocks.specs.Blocks.{header_of, block_in, blocks_in}
 use Rattle.blocks.specs.Groups.{group_bits}
 use Rattle.blocks.specs.Scrambled.{scrambled_bits, scrambler_after}
 use Rattle.blocks.specs.declared.block.Header.{Header}
 use Rattle.blocks.specs.declared.block.Block.{Block}
 use Rattle.blocks.proofs.Parts.{drop_past}
-use Rattle.blocks.proofs.Scrambles.{length-table, nth-table, scrambled-append}
+use Rattle.bits.proofs.Tables.{length-table, nth-table}
+use Rattle.blocks.proofs.Scrambles.{scrambled-append}
 use Rattle.blocks.proofs.Shapes.{length-group}
 use Rattle.sender.specs.Messages.{group_at, group_stream}
 use Rattle.lanes.specs.Pads.{pad_before}

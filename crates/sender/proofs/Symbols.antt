@@ -4,11 +4,11 @@ use native.Mathlib.Nat.{pow-succ'}
 use Rattle.std.proofs.lemmas.List.{take_at, drop_at, take-append-drop, length-take-le, get_or_past}
 use Rattle.std.proofs.lemmas.Nat.{pow_pos}
 use Rattle.std.proofs.lemmas.Bool.{cases_lt}
-use Rattle.blocks.specs.Bits.{field, number, octet_bits, octets, table, nth}
-use Rattle.blocks.proofs.Fields.{length-field, field_cons}
-use Rattle.blocks.proofs.Scrambles.{table-append, length-table, nth-table}
+use Rattle.bits.specs.Bits.{field, number, octet_bits, octets, table, nth}
+use Rattle.bits.proofs.Fields.{length-field, field_cons}
+use Rattle.bits.proofs.Tables.{table-append, length-table, nth-table}
 use Rattle.blocks.proofs.Parts.{take_past}
-use Rattle.blocks.proofs.Shapes.{binary_none, binary_append, binary_take, binary_drop, binary_field}
+use Rattle.bits.proofs.Binary.{binary_none, binary_append, binary_take, binary_drop, binary_field}
 use Rattle.lanes.specs.Markers.{symbol_in}
 use Rattle.sender.specs.Messages.{Bits, symbol_bits}
 

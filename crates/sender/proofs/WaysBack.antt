@@ -4,15 +4,17 @@ use lib.Bits.{bit_xor}
 use Rattle.std.proofs.lemmas.List.{take_at, drop_at, take_all, drop-drop, take-append-le, drop-append-le, take-append-drop, length-take-le}
 use Rattle.std.proofs.lemmas.Nat.{mul-le, xor_lt}
 use Rattle.std.proofs.lemmas.Bool.{cases_lt, cond_both}
-use Rattle.blocks.specs.Bits.{bit, field, number, octet_bits, table, nth}
+use Rattle.bits.specs.Bits.{bit, field, number, octet_bits, table, nth}
 use Rattle.blocks.specs.Groups.{group_bits, read_back}
 use Rattle.blocks.specs.Scrambled.{before, scrambled, received, descrambled, scrambled_bits, descrambled_bits}
 use Rattle.blocks.specs.Sound.{sound, Payloads}
 use Rattle.blocks.specs.declared.block.Block.{Block}
-use Rattle.blocks.proofs.Fields.{length-field, number-whole}
-use Rattle.blocks.proofs.Scrambles.{table_same, length-table, nth-table, field-table, received-same, scrambling}
-use Rattle.blocks.proofs.Bytes.{length-octets}
-use Rattle.blocks.proofs.Shapes.{binary_none, binary_append, binary_field, binary_group, length-group}
+use Rattle.bits.proofs.Fields.{length-field, number-whole}
+use Rattle.bits.proofs.Tables.{table_same, length-table, nth-table, field-table}
+use Rattle.blocks.proofs.Scrambles.{received-same, scrambling}
+use Rattle.bits.proofs.Octets.{length-octets}
+use Rattle.bits.proofs.Binary.{binary_none, binary_append, binary_field}
+use Rattle.blocks.proofs.Shapes.{binary_group, length-group}
 use Rattle.blocks.proofs.Returned.{groups_return}
 use Rattle.lanes.specs.Markers.{symbol_in}
 use Rattle.lanes.specs.Rates.{Lawful, pair_bits}

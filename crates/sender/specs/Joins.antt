@@ -1,6 +1,6 @@
 -- What a sender has sent: the strips and the blocks of its accepted sends, joined. Assumes nothing.
 use Rattle.std.specs.Prelude.{◌≡◌, ℕ, zero, suc, ◌+◌, ◌*◌, ◌%◌, Bool, cond, List, [], ◌∷◌, ◌++◌, length, take, drop, is_some, ◌==◌}
-use Rattle.blocks.specs.Bits.{field, table, nth}
+use Rattle.bits.specs.Bits.{field, table, nth}
 use Rattle.blocks.specs.Groups.{one_if}
 use Rattle.blocks.specs.Scrambled.{scrambled_bits}
 use Rattle.blocks.specs.declared.block.Block.{Block}

@@ -1,7 +1,7 @@
 -- A sender's state, and what a send makes of it. Assumes nothing.
 use Rattle.std.specs.Prelude.{◌≡◌, ℕ, ◌+◌, ◌*◌, ◌%◌, Bool, cond, List, ◌++◌, length, drop, is_some, Some, None, Ok, Err, Option, Result, ◌==◌, nat_lt}
 use Rattle.std.specs.Option.{option_map}
-use Rattle.blocks.specs.Bits.{field, table, nth}
+use Rattle.bits.specs.Bits.{field, table, nth}
 use Rattle.blocks.specs.Blocks.{blocks_in}
 use Rattle.blocks.specs.Calls.{bad_kind}
 use Rattle.blocks.specs.Scrambled.{scrambled_bits, scrambler_after}

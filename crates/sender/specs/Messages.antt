@@ -1,6 +1,6 @@
 -- A pair's message of 10,280 bits, and its two codewords. Assumes nothing.
 use Rattle.std.specs.Prelude.{ℕ, zero, suc, ◌+◌, ◌-◌, ◌*◌, ◌/◌, ◌%◌, ◌<◌, ◌≤◌, Bool, cond, List, [], ◌++◌, length, take, drop, ◌==◌}
-use Rattle.blocks.specs.Bits.{field, table, nth}
+use Rattle.bits.specs.Bits.{field, table, nth}
 use Rattle.blocks.specs.Groups.{group_bits}
 use Rattle.blocks.specs.declared.block.Block.{Block}
 use Rattle.code.specs.Code.{codeword_of}

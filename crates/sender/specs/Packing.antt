@@ -1,6 +1,6 @@
 -- Four symbols in five octets: what private functions of the strips compute. Assumes nothing.
 use Rattle.std.specs.Prelude.{◌≡◌, ℕ, ◌+◌, ◌*◌, ◌<◌, ◌⊎◌, List, [], ◌++◌, slice_index_or}
-use Rattle.blocks.specs.Bits.{field, number, table, nth}
+use Rattle.bits.specs.Bits.{field, number, table, nth}
 use Rattle.sender.specs.Messages.{Bits}
 use Rattle.sender.specs.Strips.{lane_symbol, pair_bit, lane_octets, strip_octets}
 

@@ -1,6 +1,6 @@
 -- Where the symbols of a pair stand on the lanes. Assumes nothing.
 use Rattle.std.specs.Prelude.{◌≡◌, ℕ, ◌+◌, ◌*◌, ◌/◌, ◌%◌, ◌<◌, true, cond, List, ◌==◌}
-use Rattle.blocks.specs.Bits.{bit, table, nth}
+use Rattle.bits.specs.Bits.{bit, table, nth}
 use Rattle.lanes.specs.Markers.{marker_bits}
 use Rattle.lanes.specs.Rates.{pair_bits}
 use Rattle.sender.specs.Messages.{message, word}

@@ -1,6 +1,6 @@
 -- The way back from a strip to the blocks sent, step by step. Assumes nothing.
 use Rattle.std.specs.Prelude.{◌≡◌, ℕ, zero, suc, ◌+◌, ◌*◌, ◌/◌, ◌%◌, ◌<◌, Bool, true, List, [], ◌++◌, length, take, drop}
-use Rattle.blocks.specs.Bits.{octet_bits, table, nth}
+use Rattle.bits.specs.Bits.{octet_bits, table, nth}
 use Rattle.blocks.specs.Groups.{read_back}
 use Rattle.blocks.specs.Scrambled.{descrambled_bits}
 use Rattle.blocks.specs.Sound.{sound, comes_back, Payloads}

@@ -1,6 +1,6 @@
 -- The two codewords of a pair on the lanes, row by row. Assumes nothing.
 use Rattle.std.specs.Prelude.{ℕ, zero, suc, ◌+◌, ◌*◌, ◌/◌, ◌%◌, cond, List, [], ◌++◌, ◌==◌}
-use Rattle.blocks.specs.Bits.{bit, octets, table, nth}
+use Rattle.bits.specs.Bits.{bit, octets, table, nth}
 use Rattle.sender.specs.Messages.{word}
 
 -- The symbol of lane l in row k. A row takes the next W/2 symbols of each word: A stands on the even lanes and B on the

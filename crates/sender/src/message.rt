@@ -1,6 +1,6 @@
 // The 10,280 bits of a pair's message, and the symbols of its two words.
 ghost use Rattle.std.specs.Prelude.{◌≡◌, ℕ, ◌<◌, ◌≤◌, List, [], ◌∷◌, ◌++◌, length, take};
-ghost use Rattle.blocks.specs.Bits.{field, number, table};
+ghost use Rattle.bits.specs.Bits.{field, number, table};
 ghost use Rattle.blocks.specs.Groups.{bits_of};
 ghost use Rattle.sender.specs.Messages.{Bits, HasRoom, word_symbol};
 ghost use Rattle.sender.specs.Packing.{AllBits, AllSmall, every_second, word_of};

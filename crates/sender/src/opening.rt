@@ -1,6 +1,6 @@
 // The marker block that opens a marker period.
 ghost use Rattle.std.specs.Prelude.{◌≡◌, ℕ, ◌*◌, ◌<◌, ◌++◌};
-ghost use Rattle.blocks.specs.Bits.{table, nth};
+ghost use Rattle.bits.specs.Bits.{table, nth};
 ghost use Rattle.lanes.specs.Pads.{pad_before, pad_bit, pad_memory};
 ghost use Rattle.sender.specs.Messages.{HasRoom, exchanged, symbol_bits, marker_block_symbol, marker_block, block_size, pad_size};
 

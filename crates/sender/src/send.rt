@@ -1,6 +1,6 @@
 // Making senders, and sending pairs.
 ghost use Rattle.std.specs.Prelude.{◌≡◌, ℕ, ◌+◌, ◌*◌, ◌/◌, ◌<◌, ◌≤◌, [], ◌++◌, length, None};
-ghost use Rattle.blocks.specs.Bits.{table, nth};
+ghost use Rattle.bits.specs.Bits.{table, nth};
 ghost use Rattle.blocks.specs.Calls.{bad_kind};
 ghost use Rattle.blocks.specs.Memories.{out_memory};
 ghost use Rattle.blocks.specs.Scrambled.{scrambled_bits, scrambler_after};

@@ -1,6 +1,6 @@
 // Strips: the two codewords of a pair on the lanes.
 ghost use Rattle.std.specs.Prelude.{◌≡◌, ℕ, ◌+◌, ◌*◌, ◌/◌, ◌<◌, ◌≤◌, ◌++◌, length, drop};
-ghost use Rattle.blocks.specs.Bits.{nth, octets, field};
+ghost use Rattle.bits.specs.Bits.{nth, octets, field};
 ghost use Rattle.sender.specs.Packing.{four_symbols, Small, AllSmall, symbol_on, quad_on, octets_on, strip_on};
 
 use lanes::Rate;

@@ -5,7 +5,8 @@ use Rattle.blocks.specs.Blocks.{record_of, records_of}
 use Rattle.blocks.specs.Calls.{read_refused, read_records}
 use Rattle.blocks.specs.Groups.{read_back, group_bits_in}
 use Rattle.blocks.specs.declared.block.Block.{Block}
-use Rattle.blocks.proofs.Arrays.{mapped, records_one_by_one}
+use Rattle.bits.proofs.Arrays.{mapped}
+use Rattle.blocks.proofs.Arrays.{records_one_by_one}
 use Rattle.blocks.proofs.calls.read_group.Goals as goal
 
 pub returns-clause-records : goal.returns-clause-records

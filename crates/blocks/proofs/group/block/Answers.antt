@@ -1,5 +1,5 @@
 use Rattle.std.proofs.Common.{ℕ, sym, ap, rules}
-use Rattle.blocks.proofs.Fields.{number-whole}
+use Rattle.bits.proofs.Fields.{number-whole}
 use Rattle.blocks.proofs.group.block.Goals as goal
 
 pub returns : goal.returns

@@ -1,5 +1,5 @@
 use Rattle.std.proofs.Common.{◌≡◌, List, length, get_or, rules}
-use Rattle.blocks.specs.Bits.{field, bit}
+use Rattle.bits.specs.Bits.{field, bit}
 use Rattle.blocks.specs.Groups.{flagged}
 use Rattle.blocks.specs.declared.block.Header.{Header}
 use Rattle.blocks.specs.declared.block.Header.TheVariants.{Data}

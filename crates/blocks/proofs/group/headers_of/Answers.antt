@@ -1,6 +1,6 @@
 use Rattle.std.proofs.Common.{◌≡◌, List, length, ◌∙◌, rules}
 use Rattle.blocks.specs.declared.block.Block.{Block}
-use Rattle.blocks.proofs.Arrays.{mapped}
+use Rattle.bits.proofs.Arrays.{mapped}
 use Rattle.blocks.proofs.Written.{headers_map}
 use Rattle.blocks.proofs.group.headers_of.Goals as goal
 

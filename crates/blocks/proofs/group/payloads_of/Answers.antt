@@ -1,7 +1,7 @@
 use Rattle.std.proofs.Common.{◌≡◌, List, length, ap, ◌∙◌, rules}
 use Rattle.blocks.specs.Groups.{words}
 use Rattle.blocks.specs.declared.block.Block.{Block}
-use Rattle.blocks.proofs.Arrays.{mapped}
+use Rattle.bits.proofs.Arrays.{mapped}
 use Rattle.blocks.proofs.Written.{payloads_map}
 use Rattle.blocks.proofs.group.payloads_of.Goals as goal
 

@@ -1,6 +1,6 @@
 use Rattle.std.proofs.Common.{◌≡◌, ap, ◌∙◌, rules}
 use Rattle.blocks.specs.Calls.{bad_kind}
-use Rattle.blocks.proofs.Lowest.{first_found}
+use Rattle.blocks.proofs.BadKinds.{first_found}
 use Rattle.blocks.proofs.octets.first_bad_kind.Goals as goal
 
 pub returns : goal.returns

@@ -1,5 +1,5 @@
 use Rattle.std.proofs.Common.{◌∙◌}
-use Rattle.blocks.proofs.Lowest.{unknown_is}
+use Rattle.blocks.proofs.BadKinds.{unknown_is}
 use Rattle.blocks.proofs.octets.is_unknown.Goals as goal
 
 pub returns : goal.returns

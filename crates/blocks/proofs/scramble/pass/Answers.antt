@@ -2,7 +2,7 @@ use Rattle.std.proofs.Common.{◌≡◌, ℕ, List, ◌∷◌, take, length, get
 use Rattle.std.proofs.lemmas.List.{take_all}
 use Rattle.std.proofs.Math.ListN.{length-set}
 use Rattle.std.proofs.lemmas.Grind.{common_steps}
-use Rattle.blocks.specs.Bits.{field}
+use Rattle.bits.specs.Bits.{field}
 use Rattle.blocks.specs.Groups.{one_if, words}
 use Rattle.blocks.specs.Scrambled.{memory_in}
 use Rattle.blocks.proofs.Passing.{one_word}

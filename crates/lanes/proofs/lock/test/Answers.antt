@@ -1,11 +1,11 @@
 use Rattle.std.proofs.Common.{◌≡◌, ℕ, false, Option, Some, None, rules, sym, refl, ap, ◌∙◌}
 use Rattle.std.specs.Prelude.{MatchOption}
-use Rattle.blocks.specs.Calls.{lowest}
+use Rattle.bits.specs.Lowest.{lowest}
 use Rattle.lanes.specs.Markers.{found}
 use Rattle.lanes.specs.Locks.{tested, seen}
 use Rattle.lanes.specs.declared.lock.Outcome.{Outcome}
 use Rattle.lanes.specs.declared.lock.Outcome.TheVariants.{Failed, Passed}
-use Rattle.blocks.proofs.Lowest.{lowest_none}
+use Rattle.bits.proofs.Lowest.{lowest_none}
 use Rattle.lanes.proofs.lock.test.Goals as goal
 
 -- no window passes for no lane

@@ -1,6 +1,6 @@
 use Rattle.std.proofs.Common.{◌≡◌, ℕ, Bool, true, false, rules, ap, ◌∙◌}
 use Rattle.std.proofs.lemmas.Iterator.{first_from_Range}
-use Rattle.blocks.specs.Calls.{lowest}
+use Rattle.bits.specs.Lowest.{lowest}
 use Rattle.lanes.specs.Markers.{passes, found}
 use Rattle.lanes.proofs.Lanes.{lowest_first, the_lane, sent_lane}
 use Rattle.lanes.proofs.marker.found_lane.Goals as goal

@@ -1,6 +1,6 @@
 use Rattle.std.proofs.Common.{ℕ, ◌+◌, length, sym, ap, ◌∙◌, arith}
-use Rattle.blocks.specs.Bits.{bit}
-use Rattle.blocks.proofs.Scrambles.{field-table}
+use Rattle.bits.specs.Bits.{bit}
+use Rattle.bits.proofs.Tables.{field-table}
 use Rattle.sender.proofs.Messaged.{symbols_all}
 use Rattle.sender.proofs.message.put_bits.Goals as goal
 

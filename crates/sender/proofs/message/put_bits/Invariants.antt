@@ -1,5 +1,5 @@
 use Rattle.std.proofs.Common.{◌≡◌, ℕ, ◌<◌, get_or}
-use Rattle.blocks.specs.Bits.{bit}
+use Rattle.bits.specs.Bits.{bit}
 use Rattle.sender.proofs.message.put_bits.Given as goal
 
 abbrev pub invariant-loop-i : goal.invariant-loop-i

@@ -1,6 +1,6 @@
 use Rattle.std.proofs.Common.{ℕ, ◌*◌, List, ◌++◌, ap, ◌∙◌, arith}
-use Rattle.blocks.specs.Bits.{field, table, nth}
-use Rattle.blocks.proofs.Scrambles.{length-table}
+use Rattle.bits.specs.Bits.{field, table, nth}
+use Rattle.bits.proofs.Tables.{length-table}
 use Rattle.lanes.specs.Pads.{pad_bit, pad_memory}
 use Rattle.sender.specs.Messages.{symbol_bits, marker_block_symbol, pad_size}
 use Rattle.sender.proofs.Messaged.{put_length}

@@ -1,7 +1,7 @@
 use Rattle.std.proofs.Common.{ℕ, ◌<◌, List, refl, sym, subst, append-nil, arith, rules}
-use Rattle.blocks.specs.Bits.{field, table, nth}
-use Rattle.blocks.proofs.Shapes.{binary_field}
-use Rattle.blocks.proofs.Scrambles.{length-table}
+use Rattle.bits.specs.Bits.{field, table, nth}
+use Rattle.bits.proofs.Binary.{binary_field}
+use Rattle.bits.proofs.Tables.{length-table}
 use Rattle.lanes.specs.Pads.{pad_before, pad_bit, pad_memory}
 use Rattle.sender.proofs.Messaged.{put_length}
 use Rattle.sender.proofs.Opened.{memory_more, pad_put}

@@ -1,5 +1,5 @@
 use Rattle.std.proofs.Common.{◌≡◌, ◌++◌}
-use Rattle.blocks.specs.Bits.{table, nth}
+use Rattle.bits.specs.Bits.{table, nth}
 use Rattle.lanes.specs.Pads.{pad_before, pad_bit, pad_memory}
 use Rattle.sender.proofs.opening.put_pad.Given as goal
 

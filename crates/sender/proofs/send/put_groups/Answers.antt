@@ -1,5 +1,5 @@
 use Rattle.std.proofs.Common.{◌≡◌, ℕ, ◌+◌, ◌*◌, ◌/◌, List, [], ◌∷◌, ◌++◌, length, drop, sym, ap, ◌∙◌, append-nil, arith, rules, length-append, length-drop}
-use Rattle.blocks.specs.Bits.{table}
+use Rattle.bits.specs.Bits.{table}
 use Rattle.blocks.specs.Blocks.{blocks_in}
 use Rattle.blocks.specs.Calls.{four_refused}
 use Rattle.blocks.specs.Groups.{bits_of, group_bits}

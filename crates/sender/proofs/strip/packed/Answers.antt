@@ -1,5 +1,5 @@
 use Rattle.std.proofs.Common.{◌≡◌, ℕ, length, ap, ◌∙◌, fold, reverse, rules}
-use Rattle.blocks.specs.Bits.{field}
+use Rattle.bits.specs.Bits.{field}
 use Rattle.sender.proofs.Packs.{below, packs}
 use Rattle.sender.proofs.strip.packed.Goals as goal
 

@@ -1,5 +1,5 @@
 use Rattle.std.proofs.Common.{◌≡◌, ℕ, ◌<◌, Bool, List, [], ◌∷◌, map, length, get_or, drop, set, position, MatchOption, sym, ap, ◌∙◌, rules, arith}
-use Rattle.blocks.specs.Bits.{field}
+use Rattle.bits.specs.Bits.{field}
 use Rattle.blocks.specs.Blocks.{is_control}
 use Rattle.blocks.specs.Groups.{words, one_if, read_back, blocks_of, flagged, control_back, high_digit}
 use Rattle.blocks.specs.declared.block.Header.{Header}

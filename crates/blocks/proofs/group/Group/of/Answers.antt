@@ -1,5 +1,5 @@
 use Rattle.std.proofs.Common.{◌≡◌, ℕ, ◌+◌, ◌*◌, List, ◌++◌, map, length, position, sym, ap, ◌∙◌, ap₂, rules}
-use Rattle.blocks.specs.Bits.{field, number}
+use Rattle.bits.specs.Bits.{field, number}
 use Rattle.blocks.specs.Blocks.{second_bit, is_control}
 use Rattle.blocks.specs.Groups.{without}
 use Rattle.blocks.specs.declared.block.Header.{Header}

@@ -2,10 +2,11 @@ use Rattle.std.proofs.Common.{◌≡◌, ℕ, ◌*◌, List, ◌∷◌, length, 
 use Rattle.std.specs.List.{flat_map}
 use Rattle.std.specs.Int.{to_le_bytes}
 use mir.Syntax.{w64}
-use Rattle.blocks.specs.Bits.{field, octets}
+use Rattle.bits.specs.Bits.{field, octets}
 use Rattle.blocks.specs.Groups.{words}
-use Rattle.blocks.proofs.Bytes.{eight_octets}
-use Rattle.blocks.proofs.Arrays.{mapped_of, octets-words}
+use Rattle.bits.proofs.Octets.{eight_octets}
+use Rattle.bits.proofs.Arrays.{mapped_of}
+use Rattle.blocks.proofs.Arrays.{octets-words}
 use Rattle.blocks.proofs.octets.ArrayU833FromGroup.from.Goals as goal
 
 pub returns : goal.returns

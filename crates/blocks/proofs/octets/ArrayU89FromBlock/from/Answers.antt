@@ -1,5 +1,5 @@
 use Rattle.std.proofs.Common.{ℕ, List, ◌∷◌, sym, ◌∙◌, ap₂, append-nil}
-use Rattle.blocks.proofs.Bytes.{eight_octets}
+use Rattle.bits.proofs.Octets.{eight_octets}
 use Rattle.blocks.proofs.octets.ArrayU89FromBlock.from.Goals as goal
 
 pub returns : goal.returns

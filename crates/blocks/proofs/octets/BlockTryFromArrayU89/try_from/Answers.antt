@@ -1,8 +1,8 @@
 use Rattle.std.proofs.Common.{◌≡◌, ℕ, ◌<◌, List, length, take, drop, rules, get_or, sym, ap, ap₂, ◌∙◌}
-use Rattle.blocks.specs.Bits.{field, number, octet_bits}
+use Rattle.bits.specs.Bits.{field, number, octet_bits}
 use Rattle.blocks.specs.declared.block.Header.{Header}
-use Rattle.blocks.proofs.Fields.{number-whole}
-use Rattle.blocks.proofs.Bytes.{le_octets}
+use Rattle.bits.proofs.Fields.{number-whole}
+use Rattle.bits.proofs.Octets.{le_octets}
 use Rattle.blocks.proofs.Buffers.{header_known}
 use Rattle.blocks.proofs.octets.BlockTryFromArrayU89.try_from.Goals as goal
 

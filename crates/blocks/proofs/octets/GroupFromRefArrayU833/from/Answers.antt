@@ -2,11 +2,12 @@ use Rattle.std.proofs.Common.{◌≡◌, ℕ, ◌*◌, ◌/◌, ◌<◌, ◌≤�
 use Rattle.std.proofs.lemmas.List.{take_all, length-take-le, length-drop}
 use Rattle.std.specs.Int.{from_le_bytes}
 use Rattle.std.specs.Simd.{first_chunks}
-use Rattle.blocks.specs.Bits.{field}
+use Rattle.bits.specs.Bits.{field}
 use mir.Syntax.{w64}
 use Rattle.blocks.proofs.Buffers.{lowest-bit}
-use Rattle.blocks.proofs.Bytes.{le_octets}
-use Rattle.blocks.proofs.Arrays.{words_of_octets, chunk_at, small_part}
+use Rattle.bits.proofs.Octets.{le_octets}
+use Rattle.blocks.proofs.Arrays.{words_of_octets}
+use Rattle.bits.proofs.Arrays.{chunk_at, small_part}
 use Rattle.blocks.proofs.octets.GroupFromRefArrayU833.from.Goals as goal
 
 pub returns : goal.returns

@@ -1,6 +1,6 @@
 use Rattle.std.proofs.Common.{ℕ, List, ◌++◌, length, take, sym, ap, ◌∙◌, subst, arith}
-use Rattle.blocks.specs.Bits.{field}
-use Rattle.blocks.proofs.Shapes.{binary_append, binary_field}
+use Rattle.bits.specs.Bits.{field}
+use Rattle.bits.proofs.Binary.{binary_append, binary_field}
 use Rattle.sender.specs.Messages.{Bits}
 use Rattle.sender.proofs.Messaged.{field_put}
 use Rattle.sender.proofs.message.Message.push_bits.Goals as goal

@@ -1,6 +1,6 @@
 use Rattle.std.proofs.Common.{◌≡◌, ℕ, suc, ◌+◌, ◌*◌, List, [], ◌∷◌, ◌++◌, length, get_or, take, sym, ap, ◌∙◌, append_assoc, arith, rules, length-take-le}
 use Rattle.std.proofs.lemmas.List.{take_all}
-use Rattle.blocks.specs.Bits.{field}
+use Rattle.bits.specs.Bits.{field}
 use Rattle.blocks.specs.Groups.{words, one_if}
 use Rattle.blocks.proofs.Passing.{words_more}
 use Rattle.sender.proofs.Messaged.{put_length, length-words}

@@ -1,7 +1,7 @@
 use Rattle.std.proofs.Common.{◌≡◌, ℕ, ◌+◌, ◌/◌, ◌%◌, List, ◌++◌, length, ap, ◌∙◌, ap₂, arith}
-use Rattle.blocks.specs.Bits.{table, nth}
+use Rattle.bits.specs.Bits.{table, nth}
 use Rattle.blocks.specs.Scrambled.{scrambled_bits, scrambler_after}
-use Rattle.blocks.proofs.Scrambles.{length-table}
+use Rattle.bits.proofs.Tables.{length-table}
 use Rattle.lanes.specs.Pads.{pad_bit}
 use Rattle.sender.specs.Lines.{Line, opens, opened, groups_of, blocks_of, pair_message, line_after}
 use Rattle.sender.specs.Messages.{pad_size, opening_size, group_stream, message}

@@ -1,6 +1,6 @@
 use Rattle.std.proofs.Common.{◌≡◌, ℕ, ◌+◌, ◌*◌, ◌/◌, List, ◌++◌, length, take, drop, sym, refl, ap, ◌∙◌, arith}
-use Rattle.blocks.specs.Bits.{octets}
-use Rattle.blocks.proofs.Bytes.{eight_octets, put_at}
+use Rattle.bits.specs.Bits.{octets}
+use Rattle.bits.proofs.Octets.{eight_octets, put_at}
 use Rattle.sender.specs.Packing.{word_of}
 use Rattle.sender.proofs.Packs.{quad_inside, lane_step, lane_done}
 use Rattle.sender.proofs.strip.Lane.fill.Goals as goal

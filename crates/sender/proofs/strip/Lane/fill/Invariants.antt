@@ -1,5 +1,5 @@
 use Rattle.std.proofs.Common.{◌≡◌, ◌*◌, take}
-use Rattle.blocks.specs.Bits.{octets, table}
+use Rattle.bits.specs.Bits.{octets, table}
 use Rattle.sender.specs.Packing.{word_of}
 use Rattle.sender.specs.Strips.{pair_bit}
 use Rattle.sender.proofs.strip.Lane.fill.Given as goal

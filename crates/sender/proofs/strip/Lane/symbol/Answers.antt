@@ -1,5 +1,5 @@
 use Rattle.std.proofs.Common.{◌≡◌, ℕ, zero, suc, ◌+◌, ◌*◌, ◌/◌, ◌%◌, ◌<◌, ◌==◌, cond, List, refl, ap, ◌∙◌, arith}
-use Rattle.blocks.specs.Bits.{nth}
+use Rattle.bits.specs.Bits.{nth}
 use Rattle.sender.specs.Packing.{word_of}
 use Rattle.sender.specs.Strips.{lane_symbol}
 use Rattle.sender.proofs.strip.Lane.symbol.Goals as goal

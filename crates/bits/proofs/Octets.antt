@@ -4,8 +4,8 @@ use borrow.Rule.Slice.PartMut.{put_mid}
 use Rattle.std.specs.Int.{from_le_bytes}
 use mir.Syntax.{w64}
 use Rattle.std.proofs.lemmas.List.{take_at, drop_at, drop-drop, take-append-le, drop-append-le, take-append-drop}
-use Rattle.blocks.specs.Bits.{field, number, octet_bits, octets}
-use Rattle.blocks.proofs.Fields.{field_join, number-field, take-field, drop-field}
+use Rattle.bits.specs.Bits.{field, number, octet_bits, octets}
+use Rattle.bits.proofs.Fields.{field_join, number-field, take-field, drop-field}
 
 empty : (x : ℕ) → field x 0 0 ≡ []
 unfolding field

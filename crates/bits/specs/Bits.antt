@@ -1,5 +1,5 @@
 -- Bits in the order sent. A number's lowest bit is sent first. Assumes nothing.
-use Rattle.std.specs.Prelude.{ℕ, zero, suc, ◌+◌, ◌*◌, ◌/◌, ◌%◌, ◌^◌, List, [], ◌∷◌, ◌++◌, take, drop, slice_index}
+use Rattle.std.specs.Prelude.{ℕ, zero, suc, ◌+◌, ◌*◌, ◌/◌, ◌%◌, ◌^◌, ◌<◌, List, [], ◌∷◌, ◌++◌, take, drop, slice_index}
 
 -- bit i of x
 abbrev pub bit : ℕ → ℕ → ℕ
@@ -33,3 +33,7 @@ table (suc n) f = f zero ∷ table n (λ i. f (suc i))
 -- bit i of a list
 abbrev pub nth : List ℕ → ℕ → ℕ
 nth bs i = slice_index bs i
+
+-- a list of 0 and 1
+abbrev pub Binary : List ℕ → Type 0
+Binary bs = (i : ℕ) → nth bs i < 2

@@ -2,7 +2,7 @@
 use Rattle.std.proofs.Common.{◌≡◌, ℕ, zero, suc, ◌+◌, ◌-◌, ◌*◌, ◌/◌, ◌%◌, ◌^◌, ◌<◌, ◌≤◌, List, ◌∷◌, ◌++◌, length, take, drop, sym, refl, ap, ◌∙◌, ap₂, add-zero, add-suc, mod-eq_of_lt, suc-add, zero-add, div-one, arith}
 use Rattle.std.proofs.lemmas.Nat.{shr-shr, field_of, mod-pow-add, mod_low, shr_high}
 use Rattle.std.proofs.lemmas.List.{take_at, drop_at}
-use Rattle.blocks.specs.Bits.{bit, field, number}
+use Rattle.bits.specs.Bits.{bit, field, number}
 
 pub length-field : (x i n : ℕ) → length (field x i n) ≡ n
 unfolding field

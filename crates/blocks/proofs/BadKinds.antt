@@ -1,6 +1,6 @@
--- The lowest place at which a test holds.
-use Rattle.std.proofs.Common.{◌≡◌, ℕ, zero, suc, ◌+◌, ◌*◌, ◌<◌, Bool, true, false, cond, ltb, List, length, get_or, Some, None, Option, Bor, MatchOption, IfSome, Result, Ok, Err, is_err, IsSomeAnd, sym, refl, ap, ◌∙◌, inl, inr, add-one, arith}
-use Rattle.std.proofs.lemmas.Bool.{cases_lt, lt-ltb, le-ltb}
+-- The first record whose kind is above 3.
+use Rattle.std.proofs.Common.{◌≡◌, ℕ, ◌+◌, ◌*◌, ◌<◌, Bool, true, false, ltb, List, length, get_or, Some, None, Option, Bor, MatchOption, IfSome, Result, Ok, Err, is_err, IsSomeAnd, sym, ap, ◌∙◌, arith}
+use Rattle.std.proofs.lemmas.Bool.{lt-ltb, le-ltb}
 use Rattle.std.specs.Option.{option_map}
 use Rattle.std.specs.Fn.{Called}
 use Rattle.std.specs.Iterator.Runs.{Run, CallKeepsClosure, AllItemsGive, IsFirstToGive, IsStepByRun, ItemsMapTo}
@@ -9,38 +9,8 @@ use Rattle.blocks.specs.Blocks.{Decodes}
 use Rattle.blocks.specs.declared.block.Header.{Header}
 use Rattle.blocks.specs.declared.block.Header.TheVariants.{Zeros, Control, Data, Ones}
 use Rattle.blocks.specs.declared.block.UnknownKind.{UnknownKind}
-use Rattle.blocks.specs.Calls.{or_else, lowest, kind_above_3, begun, bad_kind}
-
-pub lowest_past : (f : ℕ → Bool) (i : ℕ) → lowest f i ≡ None → f i ≡ false → lowest f (i + 1) ≡ None
-unfolding lowest
-lowest_past f i h e = rw (add-one, h, e)
-
-pub lowest-found : (f : ℕ → Bool) (i n : ℕ) → i < n → lowest f i ≡ None → f i ≡ true → lowest f n ≡ Some i
-unfolding lowest
-lowest-found f i zero l h e = absurd (omega arith)
-lowest-found f i (suc n) l h e = elim (cases_lt i n) [
-  | inl m ↦ rw (lowest-found f i n m h e)
-  | inr m ↦ let s : n ≡ i = omega arith in rw (s, h, e)
-]
-
--- where there is none below n, the test fails at each
-pub none_below : (f : ℕ → Bool) (n : ℕ) → lowest f n ≡ None → (i : ℕ) → i < n → f i ≡ false
-unfolding lowest
-none_below f zero h i l = absurd (omega arith)
-none_below f (suc n) h i l = split (lowest f n) (f n) (λ p. none_below f n p i) refl refl h
-  where
-    split : (o : Option ℕ) (b : Bool) → (lowest f n ≡ None → i < n → f i ≡ false) → lowest f n ≡ o → f n ≡ b → or_else o (cond b (Some n) None) ≡ None → f i ≡ false
-    split (Some k) b below p q e = let z : ◌≡◌ {A = ℕ} 0 1 = cc in absurd (omega arith)
-    split None true below p q e = let z : ◌≡◌ {A = ℕ} 0 1 = cc in absurd (omega arith)
-    split None false below p q e = elim (cases_lt i n) [
-      | inl m ↦ below p m
-      | inr m ↦ let s : i ≡ n = omega arith in ap f s ∙ q
-    ]
-
-pub lowest_none : (f : ℕ → Bool) (n : ℕ) → ((i : ℕ) → i < n → f i ≡ false) → lowest f n ≡ None
-unfolding lowest
-lowest_none f zero h = refl
-lowest_none f (suc n) h = rw (lowest_none f n (λ i l. h i (omega arith)), h n (omega arith))
+use Rattle.bits.proofs.Lowest.{lowest-found, lowest_none}
+use Rattle.blocks.specs.Calls.{kind_above_3, begun, bad_kind}
 
 -- every ninth byte of xs, of which the test f says whether it is above 3
 module _ {S T F : Type 0} {steps : S → Option (Bor ℕ) → S → Type 0} {strides : T → Option (Bor ℕ) → T → Type 0} {g : Mut F (Bor ℕ × Unit {0}) Bool}

@@ -1,0 +1,7 @@
+pub mod Fields
+pub mod Octets
+pub mod Tables
+pub mod Lowest
+pub mod Arrays
+pub mod Binary
+pub mod Every
