@@ -14,3 +14,4 @@ pub mod Existing
 mod WordRemainders
 pub mod Agree
 pub mod Turns
+mod Refusals

@@ -1,7 +1,8 @@
 // Encodes messages: the symbols behind the message are the remainder of its division by the generator.
 ghost use Rattle.std.specs.Prelude.{◌≡◌};
 ghost use Rattle.code.specs.Code.{generator};
-ghost use Rattle.code.specs.Answers.{Encodes};
+ghost use Rattle.code.specs.Answers.{encode_answer, encoded_word};
+ghost use Rattle.code.specs.Laws.{EncodeLaws};
 
 use super::refusal::Refusal;
 use super::symbols::{MESSAGE, Message, ROOTS, SIZE};
@@ -19,9 +20,11 @@ pub fn generator_polynomial() -> [u16; 31]
     GENERATOR
 }
 
-// Makes the word the one codeword that begins with the message.
+// Makes the word the one codeword that begins with the message; a refusal leaves it as it was.
 pub fn encode(message: &[u16], word: &mut [u16]) -> Result<(), Refusal>
-    ensures { Encodes message.now word.old word.new result }
+    ensures answer { result ≡ encode_answer message.now word.old }
+    ensures word { word.new ≡ encoded_word message.now word.old }
+    ensures laws { EncodeLaws }
 {
     if word.len() != SIZE {
         return Err(Refusal::Length);

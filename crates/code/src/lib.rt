@@ -3,18 +3,22 @@
 
 mod encoder;
 mod engine;
+mod fault;
 mod full;
 mod places;
 mod products;
 mod refusal;
 mod remainder;
+mod run;
 mod symbols;
 mod watch;
 mod word;
 
 pub use encoder::{encode, generator_polynomial};
 pub use engine::Engine;
+pub use fault::{Cause, Fault};
 pub use full::FullEngine;
 pub use refusal::Refusal;
+pub use run::Run;
 pub use watch::WatchEngine;
 pub use word::is_codeword;

@@ -1,15 +1,14 @@
 // Whether a word is a codeword.
-ghost use Rattle.std.specs.Prelude.{MatchBool};
-ghost use Rattle.code.specs.Code.{Codeword, FarApart};
-ghost use Rattle.code.specs.Answers.{EachEncodes};
+ghost use Rattle.std.specs.Prelude.{IsTrue, MatchBool, ◌↔◌};
+ghost use Rattle.code.specs.Code.{Codeword};
+ghost use Rattle.code.specs.Laws.{FarApart};
 
 use super::symbols::{SIZE, Symbols, Word};
 
-// Any word may be asked about. The contract also says that codewords lie far apart, and that every message has its codeword.
+// Any word may be asked about. The contract also says that codewords lie far apart.
 pub fn is_codeword(word: &[u16]) -> bool
-    ensures value { MatchBool result (Codeword word.now) (Codeword word.now → ⊥) }
+    ensures value { IsTrue result ↔ Codeword word.now }
     ensures law { FarApart }
-    ensures each { EachEncodes }
 {
     Word::check(word).is_ok_and(|word| word.has_roots())
 }
