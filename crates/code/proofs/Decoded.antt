@@ -7,7 +7,7 @@ use Rattle.decoder.specs.Words.{Syndromes}
 use Rattle.decoder.specs.Decoding.{Near, Proposed}
 use Rattle.gf1024.specs.declared.element.Element.{Element}
 use Rattle.gf1024.specs.Field.{group, ring, alpha, element}
-use Rattle.gf1024.specs.ElementsLemmas.{laws}
+use Rattle.gf1024.proofs.Powers.{laws}
 use Rattle.code.specs.Code.{WellFormed, Codeword, differences, distance}
 use Rattle.code.specs.Lifting.{at, symbol, Loaded, Points, Stored, Candidate}
 use Rattle.code.specs.Division.{WordSyndromes}

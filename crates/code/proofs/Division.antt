@@ -9,9 +9,10 @@ use Rattle.field.proofs.Algebra.{zero-times, spread_right}
 use Rattle.field.proofs.Sums.{sum-zero}
 use Rattle.field.proofs.WordValues.{value_same, value_next, value-joined, register_step}
 use Rattle.gf1024.specs.declared.element.Element.{Element}
-use Rattle.gf1024.specs.Product.{times}
+use Rattle.polynomials.specs.Product.{times}
 use Rattle.gf1024.specs.Field.{group, ring, alpha, element}
-use Rattle.gf1024.specs.ElementsLemmas.{same, laws}
+use Rattle.gf1024.specs.Elements.{same}
+use Rattle.gf1024.proofs.Powers.{laws}
 use Rattle.code.specs.Code.{Codeword, distance}
 use Rattle.code.specs.Answers.{Encoded}
 use Rattle.code.specs.Lifting.{symbol}

@@ -2,7 +2,7 @@
 use Rattle.std.proofs.Common.{◌≡◌, ℕ, zero, suc, ◌+◌, ◌<◌, ◌≤◌, List, ◌++◌, length, get_or, take, set, replicate, refl, ◌∙◌, subst, add-one, arith}
 use lib.Bits.{bit_xor}
 use Rattle.std.proofs.lemmas.List.{length-set, get_or-replicate}
-use Rattle.gf1024.specs.Product.{times}
+use Rattle.polynomials.specs.Product.{times}
 use Rattle.code.specs.Answers.{Encoded, EachEncodes}
 use Rattle.code.specs.Division.{tap, Shifted, Remainder}
 use Rattle.code.proofs.Division.{remainder_none, remainder_next, encoded}

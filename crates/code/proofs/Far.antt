@@ -2,7 +2,7 @@
 use Rattle.std.proofs.Common.{◌≡◌, ℕ, ◌<◌, ◌≤◌, List, length, get_or, sym, refl, ap, ◌∙◌, inl, inr, ⊎_elim, arith, ext_get_or}
 use Rattle.field.proofs.Distance.{codewords_equal}
 use Rattle.gf1024.specs.Field.{group, ring, element}
-use Rattle.gf1024.specs.ElementsLemmas.{laws}
+use Rattle.gf1024.proofs.Powers.{laws}
 use Rattle.code.specs.Code.{Codeword, FarApart, distance}
 use Rattle.code.proofs.Counting.{triangle, listed}
 use Rattle.code.proofs.Lifted.{equal_symbols, point, points_apart, syndromes_zero}

@@ -2,9 +2,9 @@
 use Rattle.std.proofs.Common.{◌≡◌, ℕ, ◌-◌, ◌%◌, ◌<◌, Bool, cond, T, eqb, ltb, List, get_or, sym, refl, ap, ◌∙◌, eqb→eq, ltb→lt}
 use Rattle.field.specs.Sums.{pow, word_value}
 use Rattle.field.proofs.WordValues.{value_same}
-use Rattle.gf1024.specs.Product.{step, product, times}
+use Rattle.polynomials.specs.Product.{step, product, times}
 use Rattle.gf1024.specs.Field.{sums, products, group, ring, alpha, element}
-use Rattle.gf1024.specs.ElementsLemmas.{same}
+use Rattle.gf1024.specs.Elements.{same}
 use Rattle.bits.specs.Every.{every}
 use Rattle.bits.proofs.Every.{passes_at}
 use Rattle.code.specs.declared.encoder.TheConstants.{GENERATOR}

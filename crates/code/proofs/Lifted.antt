@@ -7,9 +7,10 @@ use Rattle.field.specs.Places.{Apart}
 use Rattle.field.proofs.Sums.{sum_same}
 use Rattle.field.proofs.WordValues.{value_same, syndrome-value}
 use Rattle.gf1024.specs.declared.element.Element.{Element}
-use Rattle.gf1024.specs.Product.{times}
+use Rattle.polynomials.specs.Product.{times}
 use Rattle.gf1024.specs.Field.{sums, products, group, ring, alpha, element}
-use Rattle.gf1024.specs.ElementsLemmas.{same, laws}
+use Rattle.gf1024.specs.Elements.{same}
+use Rattle.gf1024.proofs.Powers.{laws}
 use Rattle.code.specs.Code.{root, value, Codeword}
 use Rattle.code.specs.Lifting.{at, Points}
 

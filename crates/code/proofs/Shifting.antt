@@ -2,8 +2,8 @@
 use Rattle.std.proofs.Common.{◌≡◌, ℕ, ◌+◌, ◌<◌, ◌≤◌, ◌⊎◌, List, length, get_or, set, refl, ap, ◌∙◌, ap₂, inl, inr, eq-or-lt_of_le, arith, get_or-set_other, get_or-set_same}
 use native.Mathlib.Decide.{dec_lt}
 use lib.Bits.{bit_xor, xor_lt}
-use Rattle.gf1024.specs.Product.{times}
-use Rattle.gf1024.specs.Closed.{times_lt}
+use Rattle.polynomials.specs.Product.{times}
+use Rattle.polynomials.proofs.Closed.{times_lt}
 use Rattle.code.specs.Division.{tap, Register, Shifted}
 use Rattle.code.proofs.TapProducts.{tap-none}
 

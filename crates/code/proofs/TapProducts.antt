@@ -1,9 +1,9 @@
 -- The tables hold the products of the elements and the taps, and the two parts of an element add up.
 use Rattle.std.proofs.Common.{◌≡◌, ℕ, ◌-◌, ◌*◌, ◌/◌, ◌%◌, ◌<◌, ◌≤◌, Bool, cond, T, eqb, List, [], get_or, sym, ap, ap₂, ◌∙◌, arith, eqb→eq, le-ltb}
 use lib.Bits.{bit_xor, xor_comm, xor_shifted}
-use Rattle.gf1024.specs.Product.{step, product, times}
-use Rattle.gf1024.specs.Laws.{times_sum_left, times_sum_right}
-use Rattle.gf1024.specs.Linear.{at_zero}
+use Rattle.polynomials.specs.Product.{step, product, times}
+use Rattle.polynomials.proofs.Products.{times_sum_left, times_sum_right}
+use Rattle.polynomials.proofs.Linear.{at_zero}
 use Rattle.bits.specs.Every.{every}
 use Rattle.bits.proofs.Every.{passes_at}
 use Rattle.code.specs.Code.{generator}

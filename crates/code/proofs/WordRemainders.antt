@@ -13,7 +13,8 @@ use Rattle.field.proofs.WordValues.{value_same, value-joined, syndrome-value}
 use Rattle.decoder.specs.Words.{Values, falling}
 use Rattle.gf1024.specs.declared.element.Element.{Element}
 use Rattle.gf1024.specs.Field.{group, ring, alpha, element}
-use Rattle.gf1024.specs.ElementsLemmas.{same, laws}
+use Rattle.gf1024.specs.Elements.{same}
+use Rattle.gf1024.proofs.Powers.{laws}
 use Rattle.code.specs.Code.{WellFormed, Codeword}
 use Rattle.code.specs.Lifting.{at, symbol, RootsOf, Falling}
 use Rattle.code.specs.Division.{raised, Register, Remainder, Joined, WordRemainder, NoRemainder, RegisterValues, WordSyndromes}

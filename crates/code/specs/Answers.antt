@@ -3,7 +3,7 @@ use Rattle.std.specs.Prelude.{ℕ, List, ◌++◌, codes, length, Some, None, Ok
 use Rattle.std.specs.Fmt.{decimal}
 use Rattle.std.specs.Option.{option_map, ok_or}
 use Rattle.std.specs.Result.{result_map_both, result_unwrap_or}
-use Rattle.code.specs.Search.{lowest}
+use Rattle.bits.specs.Lowest.{lowest}
 use Rattle.code.specs.declared.refusal.Refusal.{Refusal}
 use Rattle.code.specs.declared.refusal.Refusal.TheVariants.{Length, Symbol, Reach}
 use Rattle.code.specs.Code.{codeword_of, codeword_near, distance}

@@ -1,9 +1,9 @@
 -- The code: words of 544 symbols of ten bits, of which the first 514 are the message and the last 30 make the word a codeword.
 use Rattle.std.specs.Prelude.{◌≡◌, ℕ, zero, suc, ◌/◌, ◌%◌, ◌^◌, ◌<◌, Bool, ◌&&◌, true, List, [], ◌∷◌, ◌++◌, length, take, replicate, ◌==◌, nat_le, Option, if◌then◌else◌, bit_xor, slice_index}
 use Rattle.std.specs.Option.{option_map, unwrap_or}
-use Rattle.code.specs.Search.{lowest}
+use Rattle.bits.specs.Lowest.{lowest}
 use Rattle.field.specs.Sums.{pow, word_value}
-use Rattle.gf1024.specs.Product.{times}
+use Rattle.polynomials.specs.Product.{times}
 use Rattle.gf1024.specs.Field.{sums, products}
 
 -- the power k of alpha

@@ -2,7 +2,7 @@
 use Rattle.std.specs.Prelude.{◌≡◌, ℕ, ◌+◌, ◌-◌, ◌<◌, ◌≤◌, cond, List, length, bit_xor, nat_lt, slice_index}
 use Rattle.field.specs.Sums.{pow, word_value}
 use Rattle.gf1024.specs.declared.element.Element.{Element}
-use Rattle.gf1024.specs.Product.{times}
+use Rattle.polynomials.specs.Product.{times}
 use Rattle.gf1024.specs.Field.{group, ring, alpha}
 use Rattle.code.specs.Code.{generator}
 use Rattle.code.specs.Lifting.{at, symbol}

@@ -1,5 +1,4 @@
 -- The code of 544 symbols.
-pub mod Search
 pub mod Code
 pub mod Answers
 pub mod Laws

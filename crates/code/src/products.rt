@@ -1,6 +1,6 @@
 // The multiples of the generator by all elements: an element is the sum of a multiple of 32 and of one below 32.
 ghost use Rattle.std.specs.Prelude.{◌≡◌, ◌<◌};
-ghost use Rattle.gf1024.specs.Product.{times};
+ghost use Rattle.polynomials.specs.Product.{times};
 ghost use Rattle.code.specs.Division.{tap};
 
 // The products of the numbers below 32 and the taps, and two zeros behind them.

@@ -1,6 +1,6 @@
 // The sizes of the code, and symbols that are checked.
 ghost use Rattle.std.specs.Prelude.{◌≡◌, ℕ, ◌<◌, ◌≤◌, length, None, Some, slice_index, MatchResult, nat_lt};
-ghost use Rattle.code.specs.Search.{lowest};
+ghost use Rattle.bits.specs.Lowest.{lowest};
 ghost use Rattle.code.specs.Answers.{refusal_of};
 
 use super::refusal::Refusal;

@@ -1,3 +1,4 @@
 -- The field of 1,024 elements.
+pub mod Powers
 mod PowerLists
 mod Logarithms

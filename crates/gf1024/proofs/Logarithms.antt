@@ -1,7 +1,7 @@
 -- The tables hold the powers of x, and the exponents of those.
 use Rattle.std.proofs.Common.{◌≡◌, ℕ, zero, suc, ◌+◌, ◌<◌, Bool, ◌&&◌, true, T, eqb, ltb, List, [], ◌∷◌, length, get_or, drop, sym, refl, ap, ◌∙◌, le_of_suc-le-suc, not-suc-le-zero, add-suc, suc-add, zero-add, arith, eqb→eq, ltb→lt}
 use Rattle.std.proofs.lemmas.List.{get_or-drop}
-use Rattle.gf1024.specs.Product.{step, shifted}
+use Rattle.polynomials.specs.Product.{step, shifted}
 use Rattle.bits.proofs.Every.{both_left, both_right}
 use Rattle.gf1024.proofs.PowerLists.{exps, logs}
 

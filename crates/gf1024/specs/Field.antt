@@ -5,8 +5,8 @@ use Rattle.std.proofs.Common.{lit<}
 use Rattle.field.specs.Laws.{Group, Ring, FieldLaws}
 use Rattle.field.specs.Sums.{pow}
 use Rattle.gf1024.specs.declared.element.Element.{Element}
-use Rattle.gf1024.specs.Product.{times, inverse}
-use Rattle.gf1024.specs.Closed.{low_lt, times_lt, inverse_lt}
+use Rattle.polynomials.specs.Product.{times, inverse}
+use Rattle.polynomials.proofs.Closed.{low_lt, times_lt, inverse_lt}
 
 -- the operations on numbers, of which those below 1,024 are the field
 abbrev pub sums : Group ℕ

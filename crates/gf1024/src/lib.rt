@@ -1,5 +1,5 @@
 // The field of 1,024 elements: polynomials over the field of two elements modulo x^10 + x^3 + 1.
-#![tactic(auto, using(crate::specs::ElementsLemmas::same))]
+#![tactic(auto, using(crate::specs::Elements::same))]
 
 ghost use Rattle.std.specs.Prelude.{◌≡◌};
 ghost use Rattle.field.specs.Sums.{pow};

@@ -1,6 +1,6 @@
 // The operations of the field on its elements.
 ghost use Rattle.gf1024.specs.Field.{group, ring};
-ghost use Rattle.gf1024.specs.ElementsLemmas.{add_laws, field_laws};
+ghost use Rattle.gf1024.specs.Elements.{add_laws, field_laws};
 
 use super::element::Element;
 use super::tables::{exp, log};

@@ -175,7 +175,7 @@ const LOG: [u16; 1024] = [
 ];
 
 // The power i of alpha.
-pub fn exp(i: usize) -> Element
+pub(crate) fn exp(i: usize) -> Element
     requires { i < 2048 }
     ensures { result ≡ pow ring alpha i }
 {
@@ -183,7 +183,7 @@ pub fn exp(i: usize) -> Element
 }
 
 // The exponent of an element, which zero has not.
-pub fn log(a: Element) -> Option<usize>
+pub(crate) fn log(a: Element) -> Option<usize>
     ensures { MatchOption result (a ≡ group.zero) (λ i. (i < 1023) × (pow ring alpha i ≡ a)) }
 {
     if a.value == 0 {

@@ -1,7 +1,8 @@
 -- Whole turns of the exponent drop out.
 use Rattle.std.proofs.Common.{sym, ◌∙◌}
-use Rattle.gf1024.specs.Order.{shifted_mod}
-use Rattle.gf1024.specs.ElementsLemmas.{same, power_value, laws}
+use Rattle.polynomials.proofs.Order.{shifted_mod}
+use Rattle.gf1024.specs.Elements.{same}
+use Rattle.gf1024.proofs.Powers.{power_value, laws}
 use Rattle.gf1024.proofs.alpha_power.Goals as goal
 
 pub returns-clause-value : goal.returns-clause-value

@@ -1,7 +1,8 @@
 -- The table holds the powers.
 use Rattle.std.proofs.Common.{◌<◌, sym, ◌∙◌, subst, lit<}
-use Rattle.gf1024.specs.Laws.{shifted_lt}
-use Rattle.gf1024.specs.ElementsLemmas.{same, power_value}
+use Rattle.polynomials.proofs.Products.{shifted_lt}
+use Rattle.gf1024.specs.Elements.{same}
+use Rattle.gf1024.proofs.Powers.{power_value}
 use Rattle.gf1024.proofs.PowerLists.{exps}
 use Rattle.gf1024.proofs.Logarithms.{exp_at}
 use Rattle.gf1024.proofs.tables.exp.Goals as goal

@@ -2,7 +2,8 @@
 use Rattle.std.proofs.Common.{◌≡◌, ◌<◌, ap, get_or, ◌∙◌, sym, subst, arith}
 use Rattle.field.specs.Sums.{pow}
 use Rattle.gf1024.specs.Field.{ring, alpha}
-use Rattle.gf1024.specs.ElementsLemmas.{same, power_value}
+use Rattle.gf1024.specs.Elements.{same}
+use Rattle.gf1024.proofs.Powers.{power_value}
 use Rattle.gf1024.proofs.PowerLists.{logs}
 use Rattle.gf1024.proofs.Logarithms.{log_at}
 use Rattle.gf1024.proofs.tables.log.Goals as goal

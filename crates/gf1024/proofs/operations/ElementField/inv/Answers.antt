@@ -4,9 +4,10 @@ use Rattle.field.proofs.Algebra.{zero-times}
 use Rattle.field.specs.Sums.{pow}
 use Rattle.field.proofs.Powers.{pow_add}
 use Rattle.gf1024.specs.declared.element.Element.{Element}
-use Rattle.gf1024.specs.Laws.{inverse_is, inverse_zero}
+use Rattle.polynomials.proofs.Products.{inverse_is, inverse_zero}
 use Rattle.gf1024.specs.Field.{group, ring, alpha}
-use Rattle.gf1024.specs.ElementsLemmas.{same, field_laws, laws}
+use Rattle.gf1024.specs.Elements.{same, field_laws}
+use Rattle.gf1024.proofs.Powers.{laws}
 use Rattle.gf1024.proofs.operations.ElementField.inv.Goals as goal
 
 -- there is one inverse only

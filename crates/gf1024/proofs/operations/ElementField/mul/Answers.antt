@@ -4,7 +4,7 @@ use Rattle.std.proofs.lemmas.Option.{MatchOption-at_none}
 use Rattle.field.proofs.Algebra.{zero-times, times_zero}
 use Rattle.field.proofs.Powers.{pow_add}
 use Rattle.gf1024.specs.Field.{group, ring, alpha}
-use Rattle.gf1024.specs.ElementsLemmas.{field_laws}
+use Rattle.gf1024.specs.Elements.{field_laws}
 use Rattle.gf1024.proofs.operations.ElementField.mul.Goals.{in_default-via-in-Some+in_default, in_default-via-in_default}
 use Rattle.gf1024.proofs.operations.ElementField.mul.Goals as goal
 

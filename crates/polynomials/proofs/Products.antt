@@ -1,11 +1,11 @@
 -- The laws of the product of numbers below 1,024. Each respects sums, so it is enough to test it at the powers of two.
 use Rattle.std.specs.Prelude.{◌≡◌, ℕ, zero, suc, ◌+◌, ◌-◌, ◌^◌, ◌<◌, ◌≤◌, Bool, T, ◌==◌, refl}
 use Rattle.std.proofs.Common.{sym, ◌∙◌, ap, arith, eqb→eq, lit<}
-use Rattle.gf1024.specs.Product.{step, product, times, squares, inverse, shifted}
-use Rattle.gf1024.specs.Closed.{step_lt, inverse_lt}
-use Rattle.gf1024.specs.Linear.{agree, Additive}
-use Rattle.gf1024.specs.Bilinear.{step_sum, product_sum_left, product_sum_right}
-use Rattle.gf1024.specs.Order.{shifted_add, whole}
+use Rattle.polynomials.specs.Product.{step, product, times, squares, inverse, shifted}
+use Rattle.polynomials.proofs.Closed.{step_lt, inverse_lt}
+use Rattle.polynomials.proofs.Linear.{agree, Additive}
+use Rattle.polynomials.proofs.Bilinear.{step_sum, product_sum_left, product_sum_right}
+use Rattle.polynomials.proofs.Order.{shifted_add, whole}
 use Rattle.bits.specs.Every.{every}
 use Rattle.bits.proofs.Every.{passes_at}
 

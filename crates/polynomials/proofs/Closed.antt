@@ -4,7 +4,7 @@ use Rattle.std.proofs.Common.{◌∙◌, ap, zero-mul, one-mul, arith, lit<}
 use Rattle.std.proofs.Math.Decide.{dec_lt}
 use Rattle.std.proofs.lemmas.Nat.{xor_lt, xor_shr}
 use Rattle.std.specs.Int.Bits.{xor_zero_r}
-use Rattle.gf1024.specs.Product.{step, product, times, squares, inverse}
+use Rattle.polynomials.specs.Product.{step, product, times, squares, inverse}
 
 pub low_lt : (a : ℕ) → a % 1024 < 1024
 low_lt a = omega arith

@@ -2,7 +2,7 @@
 use Rattle.std.specs.Prelude.{◌≡◌, ℕ, zero, suc, ◌+◌, ◌-◌, ◌*◌, ◌/◌, ◌%◌, ◌<◌, Bool, ◌&&◌, true, not, T, ◌==◌, ◌≢◌, refl}
 use Rattle.std.proofs.Common.{sym, ◌∙◌, ap, not-suc-le-zero, le_of_suc-le-suc, zero-add, suc-add, arith, T_not}
 use Rattle.std.proofs.Math.Dec.{eqb_refl}
-use Rattle.gf1024.specs.Product.{step, shifted}
+use Rattle.polynomials.specs.Product.{step, shifted}
 use Rattle.bits.proofs.Every.{both_left, both_right}
 
 pub shifted_add : (m n a : ℕ) → shifted (m + n) a ≡ shifted n (shifted m a)

@@ -3,8 +3,8 @@ use Rattle.std.specs.Prelude.{◌≡◌, ℕ, zero, suc, ◌+◌, ◌*◌, ◌/�
 use Rattle.std.proofs.Common.{sym, ◌∙◌, ap, ap₂, zero-mul, one-mul, add-zero, arith, lit<}
 use Rattle.std.specs.Int.Bits.{xor_zero_l, xor_zero_r, xor_self}
 use Rattle.std.proofs.lemmas.Nat.{xor_mod, xor_shr, xor_block}
-use Rattle.gf1024.specs.Product.{step, product}
-use Rattle.gf1024.specs.Linear.{swapped, Additive}
+use Rattle.polynomials.specs.Product.{step, product}
+use Rattle.polynomials.proofs.Linear.{swapped, Additive}
 
 bit_times_sum : (n a b : ℕ) → n < 2 → n * bit_xor a b ≡ bit_xor (n * a) (n * b)
 bit_times_sum zero a b h = rw (zero-mul (bit_xor a b), zero-mul a, zero-mul b) (sym (xor_self 0))

@@ -1,0 +1,5 @@
+pub mod Closed
+pub mod Linear
+pub mod Bilinear
+pub mod Order
+pub mod Products
