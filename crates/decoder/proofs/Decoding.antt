@@ -1,19 +1,18 @@
 -- The errors of a word in reach of a codeword are at the roots of the locator.
-use Rattle.std.proofs.Common.{◌≡◌, ℕ, zero, suc, ◌+◌, ◌-◌, ◌*◌, ◌<◌, ◌≤◌, ◌≢◌, Bool, true, false, ◌⊎◌, List, [], ◌∷◌, length, take, get_or, MatchBool, sym, refl, ap, ◌∙◌, subst, inl, inr, ⊎_elim, le_of_suc-le-suc, eq-or-lt_of_le, arith}
-use Rattle.std.specs.List.{AllWithin, HoldsAt}
+use Rattle.std.proofs.Common.{◌≡◌, ℕ, zero, suc, ◌+◌, ◌-◌, ◌*◌, ◌<◌, ◌≤◌, ◌⊎◌, List, [], ◌∷◌, length, take, get_or, sym, refl, ap, ◌∙◌, subst, inl, inr, ⊎_elim, le_of_suc-le-suc, eq-or-lt_of_le, arith}
 use native.Mathlib.Decide.{ℕ_discrete}
 use Rattle.field.specs.Laws.{Group, Ring, FieldLaws}
-use Rattle.field.specs.Sums.{sum, pow, syndrome, polynomial}
+use Rattle.field.specs.Sums.{sum, syndrome, polynomial}
 use Rattle.field.proofs.Algebra.{one_right, cancel}
 use Rattle.field.proofs.Sums.{sum_same}
 use Rattle.field.specs.Places.{Among, Distinct, Below, Apart}
 use Rattle.field.proofs.Distance.{error, error_syndrome, error_back, error_zero, errors_within}
 use Rattle.field.proofs.Locator.{located}
 use Rattle.field.proofs.Roots.{few_roots}
-use Rattle.decoder.specs.Words.{Monic, Annihilates, Syndromes}
+use Rattle.decoder.specs.Words.{Monic, Annihilates}
 use native.Mathlib.Decide.{dec_lt}
 use Rattle.decoder.specs.Errors.{Found, Subtracted, gaps, error_value}
-use Rattle.decoder.specs.Decoding.{Codeword, Near, Proposal}
+use Rattle.decoder.specs.Decoding.{IsClean, Near, Proposal}
 use Rattle.decoder.specs.Words.{word_syndrome}
 use Rattle.decoder.specs.declared.elimination.Row.{Row}
 use Rattle.decoder.specs.Elimination.{Candidate}
@@ -74,12 +73,6 @@ module _ {F : Type 0} (g : Group F) (r : Ring F) (laws : FieldLaws g r) where
       let e = places_length f m in
       omega arith
 
-  -- a test of the syndromes is a test for a codeword
-  pub zero_test : (w xs s : List F) (n : ℕ) (b : Bool) → Syndromes g r w xs n (length s) s
-      → MatchBool b (AllWithin (λ y. y ≡ 𝟎) s 0 (length s)) ((k : ℕ) × (k < length s) × HoldsAt (λ y. y ≢ 𝟎) s k) → MatchBool b (Codeword g r xs n (length s) w) (Codeword g r xs n (length s) w → ⊥)
-  zero_test w xs s n true is h = λ k l. sym (is k l) ∙ h k 𝟎 (omega arith) l
-  zero_test w xs s n false is h = λ code. h.2 𝟎 (is h.0 h.1 ∙ code h.0 h.1)
-
   -- each place with an error is found
   errors_found : (n reach : ℕ) (x w c : ℕ → F) (code : (k : ℕ) → k < 2 * reach → syndrome g r n x c k ≡ 𝟎) → Apart n x → (qs : List ℕ) → length qs ≤ reach → ((i : ℕ) → i < n → (w i ≡ c i) ⊎ Among i qs)
       → (s v : List F) → ((k : ℕ) → k < 2 * reach → get_or s k 𝟎 ≡ syndrome g r n x w k) → Annihilates g r v s (reach + 1) reach
@@ -134,7 +127,7 @@ module _ {F : Type 0} (g : Group F) (r : Ring F) (laws : FieldLaws g r) where
 
     -- the word less the errors there, which the first m syndromes give
     module _ (word s front : List F) (syn : (k : ℕ) → k < 2 * reach → get_or s k 𝟎 ≡ word_syndrome g r word xs k n) (same : (k : ℕ) → k < m → get_or front k 𝟎 ≡ get_or s k 𝟎) (annihilates : Annihilates g r v s (reach + 1) reach)
-        (spots out : List F) (at : (t : ℕ) → t < m → get_or spots t 𝟎 ≡ point (place t)) (less : Subtracted g r word found spots front m m out) where
+        (spots out : List F) (size : length out ≡ n) (at : (t : ℕ) → t < m → get_or spots t 𝟎 ≡ point (place t)) (less : Subtracted g r word found spots front m m out) where
       near : Near g n reach word out
       near = (places place m, (let e = places_length place m in let f = few in let q : length (places place m) ≤ reach = omega arith in q), λ i l. go i (place? place m i))
         where
@@ -143,7 +136,7 @@ module _ {F : Type 0} (g : Group F) (r : Ring F) (laws : FieldLaws g r) where
           go i (no p) = inl (sym (less.rest i (λ t l e. p (t, l, e))))
 
       -- each codeword near the word is what is left of it
-      the_word : (c : List F) → Codeword g r xs n (2 * reach) c → Near g n reach word c → (i : ℕ) → i < n → get_or out i 𝟎 ≡ get_or c i 𝟎
+      the_word : (c : List F) → IsClean g r xs n (2 * reach) c → Near g n reach word c → (i : ℕ) → i < n → get_or out i 𝟎 ≡ get_or c i 𝟎
       the_word c code close i l = go (place? place m i)
         where
           err : ℕ → F
@@ -171,7 +164,7 @@ module _ {F : Type 0} (g : Group F) (r : Ring F) (laws : FieldLaws g r) where
           go (no p) = less.rest i (λ t h e. p (t, h, e)) ∙ ⊎_elim (λ e. error_zero g r laws n (2 * reach) (λ k. get_or xs k 𝟎) (λ k. get_or word k 𝟎) (λ k. get_or c k 𝟎) code i e) (λ q. absurd (p q)) (found_at i l)
 
       pub proposal : Proposal g r xs n reach word out
-      proposal = record { near = near; only = the_word }
+      proposal = record { size = size; near = near; only = the_word }
 
   -- the row found among the first reach + 1 rows, and the places of its roots
   module _ (xs s : List F) (row : Row F) (found : List ℕ) (n reach size m : ℕ) (apart : Apart n (λ i. get_or xs i 𝟎)) (rows : size ≡ reach + 1) (room : reach + 1 ≤ length row.coefficients)
@@ -185,12 +178,7 @@ module _ {F : Type 0} (g : Group F) (r : Ring F) (laws : FieldLaws g r) where
     pub few_found : m ≤ reach
     few_found = few xs row.coefficients found n reach m row.degree apart is.monic is.small lists
 
-    pub proposal_found : (word spots out : List F) → ((k : ℕ) → k < 2 * reach → get_or s k 𝟎 ≡ word_syndrome g r word xs k n)
+    pub proposal_found : (word spots out : List F) → length out ≡ n → ((k : ℕ) → k < 2 * reach → get_or s k 𝟎 ≡ word_syndrome g r word xs k n)
         → ((t : ℕ) → t < m → get_or spots t 𝟎 ≡ get_or xs (get_or found t 0) 𝟎) → Subtracted g r word found spots (take m s) m m out → Proposal g r xs n reach word out
-    proposal_found word spots out syn at less =
-        proposal xs row.coefficients found n reach m row.degree apart is.monic is.small lists word s (take m s) syn (λ k h. get_or-take m s k 𝟎 h) is.annihilates spots out at less
-
-  -- where the proposal is no codeword, none is near
-  pub none_near : (xs : List F) (n reach : ℕ) (word out : List F) → Proposal g r xs n reach word out → (Codeword g r xs n (2 * reach) out → ⊥) → (c : List F) → Codeword g r xs n (2 * reach) c → Near g n reach word c → ⊥
-  none_near xs n reach word out p h c code close =
-      h (λ k l. sum_same g n (λ i. get_or out i 𝟎 ⊗ pow r (get_or xs i 𝟎) k) (λ i. get_or c i 𝟎 ⊗ pow r (get_or xs i 𝟎) k) (λ i q. ap (λ z. z ⊗ pow r (get_or xs i 𝟎) k) (p.only c code close i q)) ∙ code k l)
+    proposal_found word spots out long syn at less =
+        proposal xs row.coefficients found n reach m row.degree apart is.monic is.small lists word s (take m s) syn (λ k h. get_or-take m s k 𝟎 h) is.annihilates spots out long at less

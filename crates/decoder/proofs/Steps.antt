@@ -1,8 +1,7 @@
 -- What one turn of a loop does to the definition that the loop computes.
-use Rattle.std.proofs.Common.{◌≡◌, ℕ, ◌+◌, ◌<◌, ◌≤◌, ◌⊎◌, List, length, get_or, set, sym, ap, ◌∙◌, subst, inl, inr, eq-or-lt_of_le, add-one, arith, get_or-set_other, get_or-set_same}
+use Rattle.std.proofs.Common.{◌≡◌, ℕ, ◌+◌, ◌<◌, ◌≤◌, ◌⊎◌, List, length, get_or, set, sym, ap, ◌∙◌, subst, inl, inr, eq-or-lt_of_le, arith, get_or-set_other, get_or-set_same}
 use Rattle.field.specs.Laws.{Group, Ring}
-use Rattle.field.specs.Sums.{pow}
-use Rattle.decoder.specs.Words.{row_value, word_syndrome}
+use Rattle.decoder.specs.Words.{row_value}
 use Rattle.decoder.specs.Errors.{Found, error_value, Subtracted}
 
 module _ {F : Type 0} (g : Group F) (r : Ring F) where
@@ -44,9 +43,6 @@ module _ {F : Type 0} (g : Group F) (r : Ring F) where
       go : (j : ℕ) → row_value g r d v (get_or xs j g.zero) ≡ g.zero → (j ≡ i) ⊎ (j < i) → (t : ℕ) × (t < count + 1) × (get_or (set found count i) t 0 ≡ j)
       go j q (inl w) = (count, (let z : count < count + 1 = omega arith in z), at_top ∙ sym w)
       go j q (inr w) = let a = f.all j w q in (a.0, (let z : a.0 < count + 1 = omega (arith, a.1) in z), at_lower a.0 a.1 ∙ a.2)
-
-  pub syndrome_next : (w xs : List F) (k n : ℕ) → g.plus (word_syndrome g r w xs k n) (r.times (get_or w n g.zero) (pow r (get_or xs n g.zero) k)) ≡ word_syndrome g r w xs k (n + 1)
-  syndrome_next w xs k n = rw add-one
 
   -- one place more
   pub subtracted_next : (old : List F) (found : List ℕ) (xs s : List F) (m j : ℕ) (out : List F) (y : F) → Subtracted g r old found xs s m j out → j < m

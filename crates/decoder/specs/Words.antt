@@ -1,15 +1,11 @@
 -- Words of symbols and their syndromes, and rows: polynomials with the lowest coefficient first.
 use Rattle.std.specs.Prelude.{◌≡◌, ℕ, ◌+◌, ◌-◌, ◌<◌, List, get_or, slice_index_or}
 use Rattle.field.specs.Laws.{Group, Ring}
-use Rattle.field.specs.Sums.{sum, pow, syndrome, polynomial, word_value}
+use Rattle.field.specs.Sums.{sum, syndrome, polynomial, word_value}
 
 -- the syndrome k of the first n symbols of the word w at the points xs
 abbrev pub word_syndrome : {F : Type 0} → Group F → Ring F → List F → List F → ℕ → ℕ → F
 word_syndrome g r w xs k n = syndrome g r n (λ i. get_or xs i g.zero) (λ i. get_or w i g.zero) k
-
--- each of the syndromes s and the term a x^k
-abbrev pub TermAdded : {F : Type 0} → Group F → Ring F → List F → F → F → ℕ → List F → Type 0
-TermAdded g r old a x n s = (k : ℕ) → k < n → slice_index_or s k g.zero ≡ g.plus (slice_index_or old k g.zero) (r.times a (pow r x k))
 
 -- s holds syndromes of w
 abbrev pub Syndromes : {F : Type 0} → Group F → Ring F → List F → List F → ℕ → ℕ → List F → Type 0

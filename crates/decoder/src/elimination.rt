@@ -115,7 +115,7 @@ fn start<F: Field + Copy>(rows: &mut [Row<F>])
 }
 
 // A row of degree below the number of rows that annihilates as many places but one. The rows are for the work.
-pub fn locate<F: Field + Copy>(rows: &mut [Row<F>], s: &[F]) -> Row<F>
+pub(crate) fn locate<F: Field + Copy>(rows: &mut [Row<F>], s: &[F]) -> Row<F>
     requires rows { (0 < length rows.old) × (length rows.old ≤ 16) }
     requires syndromes { 2 * (length rows.old - 1) ≤ length s.now }
     ensures { Candidate F.Adds.group F.Field.ring s.now (length rows.old) (length rows.old - 1) result }

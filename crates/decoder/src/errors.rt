@@ -33,7 +33,7 @@ fn error_at<F: Field + Copy>(t: &mut [F], points: &[F], j: usize) -> F
 }
 
 // The points of the places found.
-pub fn gather<F: Field + Copy>(located: &mut [F], points: &[F], found: &[usize])
+pub(crate) fn gather<F: Field + Copy>(located: &mut [F], points: &[F], found: &[usize])
     requires { (length located.old ≡ length found.now) × ((t : ℕ) → t < length found.now → slice_index found.now t < length points.now) }
     ensures { (t : ℕ) → t < length found.now → slice_index_or located.new t F.Adds.group.zero ≡ slice_index_or points.now (slice_index found.now t) F.Adds.group.zero }
 {
@@ -45,7 +45,7 @@ pub fn gather<F: Field + Copy>(located: &mut [F], points: &[F], found: &[usize])
 
 // Subtracts the errors at the places found, whose points are located, from the word, given as many syndromes s;
 // t is for the work.
-pub fn subtract<F: Field + Copy>(
+pub(crate) fn subtract<F: Field + Copy>(
     word: &mut [F],
     s: &[F],
     t: &mut [F],

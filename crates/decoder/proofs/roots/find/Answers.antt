@@ -20,8 +20,8 @@ loop-i-preserved g c =
     let y = c.y-item.result in
     let size = length-take-le (length xs) c.args.values.now (omega arith) in
     let e : y ≡ row_value G R d v (get_or xs i G.zero) =
-    get_or_read c.evaluate.new.values i y (omega arith) c.y-item.is G.zero
-    ∙ c.evaluate.ensures i (omega arith) ∙ falling-value G R g.met.F.Field.field v d (get_or xs i G.zero) in
+    get_or_read c.put_values.new.values i y (omega arith) c.y-item.is G.zero
+    ∙ c.put_values.ensures i (omega arith) ∙ falling-value G R g.met.F.Field.field v d (get_or xs i G.zero) in
     elim c.if-is_zero.branch [
       | then-is_zero w ↦
           subst₂ (λ (f : List ℕ) (n : ℕ). Found G R v d xs (i + 1) f n) (sym w.found-is) (sym w.count-is)

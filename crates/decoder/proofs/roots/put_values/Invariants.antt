@@ -1,7 +1,7 @@
 -- The values of the coefficients passed; with one more, those at the points passed are stepped, and the others as they were.
 use Rattle.std.proofs.Common.{◌≡◌, ℕ, ◌≤◌, length, get_or}
 use Rattle.decoder.specs.Words.{Stepped, Values, falling}
-use Rattle.decoder.proofs.roots.evaluate.Given as goal
+use Rattle.decoder.proofs.roots.put_values.Given as goal
 
 abbrev pub invariant-loop-c : goal.invariant-loop-c
 invariant-loop-c g l =

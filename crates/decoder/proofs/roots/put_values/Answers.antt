@@ -5,7 +5,7 @@ use Rattle.std.proofs.lemmas.Iterator.Adapters.{YieldsList-from_rev_slice}
 use Rattle.std.proofs.lemmas.Iterator.Consumers.{YieldsList-turn}
 use Rattle.decoder.specs.Words.{Stepped, Values, falling}
 use Rattle.decoder.proofs.Evaluation.{values_none, values_next}
-use Rattle.decoder.proofs.roots.evaluate.Goals as goal
+use Rattle.decoder.proofs.roots.put_values.Goals as goal
 
 pub loop-c-init : goal.loop-c-init
 loop-c-init g c =

@@ -1,6 +1,6 @@
 use Rattle.std.proofs.Common.{◌≡◌, ℕ, zero, suc, ◌<◌, List, [], ◌∷◌, length, get_or, rules, arith}
 use Rattle.std.specs.List.{FoldsTo}
-use Rattle.decoder.proofs.syndromes.clear.Goals as goal
+use Rattle.decoder.proofs.roots.clear.Goals as goal
 
 each_made : {P A : Type 0} (R : P → A → P → Type 0) (z : A) → ((p : P) (x : A) (q : P) → R p x q → x ≡ z) → (xs : List A) (p q : P) → FoldsTo R p xs q → (k : ℕ) → k < length xs → get_or xs k z ≡ z
 each_made R z h [] p q f k l = absurd (omega arith)
