@@ -1,7 +1,8 @@
 -- The answers of the engines, from what their parts found.
-use Rattle.std.proofs.Common.{◌≡◌, ℕ, ◌≤◌, List, get_or, Ok, Err, sym, refl, ◌∙◌, subst, arith, ext_get_or}
+use Rattle.std.proofs.Common.{◌≡◌, ℕ, ◌≤◌, List, get_or, Ok, Err, Result, sym, refl, ◌∙◌, subst, arith, ext_get_or}
 use Rattle.code.specs.Code.{WellFormed, Codeword, distance}
-use Rattle.code.specs.Answers.{Lowest, Repaired, WatchingKeeps}
+use Rattle.code.specs.declared.refusal.Refusal.{Refusal}
+use Rattle.code.specs.Laws.{Lowest, Repaired, Corrected}
 use Rattle.code.proofs.Counting.{count_none, none_counted}
 
 pub not_formed : (w : List ℕ) (i : ℕ) → Lowest w i → WellFormed w → ⊥
@@ -33,6 +34,7 @@ none_apart w v formed other near =
 pub none-near : (w : List ℕ) → WellFormed w → (Codeword w → ⊥) → (c : List ℕ) → Codeword c → distance w c ≤ 0 → ⊥
 none-near w formed other c code near = other (subst Codeword (none_apart w c formed code.formed near) code)
 
-pub watching_keeps : WatchingKeeps
+-- at reach 0 every word stays
+pub watching_keeps : (w v : List ℕ) (r : Result ℕ Refusal) → Corrected 0 w v r → v ≡ w
 watching_keeps w v (Ok n) h = none_apart w v h.formed h.codeword.formed (let d = h.changed in let l = h.within in omega arith)
 watching_keeps w v (Err e) h = h.0

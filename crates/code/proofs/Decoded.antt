@@ -1,15 +1,15 @@
 -- What the decoder says of elements, for the symbols of a word.
-use Rattle.std.proofs.Common.{◌≡◌, ℕ, ◌-◌, ◌<◌, ◌≤◌, true, false, ◌⊎◌, List, map, length, get_or, sym, ap, ◌∙◌, inl, inr, ⊎_elim, arith, ext_get_or}
+use Rattle.std.proofs.Common.{◌≡◌, ℕ, ◌-◌, ◌<◌, ◌≤◌, ◌⊎◌, List, map, length, get_or, sym, ap, ◌∙◌, inl, inr, ⊎_elim, arith, ext_get_or}
 use Rattle.field.specs.Places.{Among, Apart}
 use Rattle.field.specs.Sums.{pow, syndrome, word_value}
 use Rattle.field.proofs.WordValues.{value_same, syndrome-value}
 use Rattle.decoder.specs.Words.{Syndromes}
-use Rattle.decoder.specs.Decoding.{Near, Proposed}
+use Rattle.decoder.specs.Decoding.{Near, Proposal, NoneNear}
 use Rattle.gf1024.specs.declared.element.Element.{Element}
 use Rattle.gf1024.specs.Field.{group, ring, alpha, element}
 use Rattle.gf1024.proofs.Powers.{laws}
 use Rattle.code.specs.Code.{WellFormed, Codeword, differences, distance}
-use Rattle.code.specs.Lifting.{at, symbol, Loaded, Points, Stored, Candidate}
+use Rattle.code.specs.Lifting.{at, symbol, Loaded, Points, Stored, ProposedWord}
 use Rattle.code.specs.Division.{WordSyndromes}
 use Rattle.code.proofs.Counting.{Cover, listed, covered}
 use Rattle.code.proofs.Lifted.{small_is, points_are, syndromes_zero, at_map}
@@ -58,7 +58,7 @@ module _ (w : List ℕ) (es xs : List Element) (formed : WellFormed w) (size : l
         covers : Cover 544 (λ i. get_or w i 0) (λ i. get_or v i 0) qs
         covers i l = ⊎_elim (λ e. inl (number_is i l ∙ ap (λ (x : Element). x.value) e ∙ sym (stored i l))) (λ a. inr a) (near i (omega arith))
 
-    pub candidate : Proposed group ring xs (length es) 15 es out true → Candidate w v
+    pub candidate : Proposal group ring xs (length es) 15 es out → ProposedWord w v
     candidate h = record {
       formed = record { size = long; symbols = λ i l. rw (stored i l) (at out i).small };
       near = near_word h.near.0 h.near.1 h.near.2;
@@ -70,5 +70,5 @@ module _ (w : List ℕ) (es xs : List Element) (formed : WellFormed w) (size : l
           ∙ sym (stored i (let e = code.formed.size in omega arith)));
     }
 
-  pub no_candidate : (out : List Element) → Proposed group ring xs (length es) 15 es out false → (c : List ℕ) → Codeword c → distance w c ≤ 15 → ⊥
-  no_candidate out h c code near = h (map element c) (zero c code) (close c near)
+  pub no_candidate : NoneNear group ring xs (length es) 15 es → (c : List ℕ) → Codeword c → distance w c ≤ 15 → ⊥
+  no_candidate h c code near = h (map element c) (zero c code) (close c near)

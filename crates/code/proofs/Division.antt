@@ -14,14 +14,13 @@ use Rattle.gf1024.specs.Field.{group, ring, alpha, element}
 use Rattle.gf1024.specs.Elements.{same}
 use Rattle.gf1024.proofs.Powers.{laws}
 use Rattle.code.specs.Code.{Codeword, distance}
-use Rattle.code.specs.Answers.{Encoded}
+use Rattle.code.specs.Laws.{Encoded}
 use Rattle.code.specs.Lifting.{symbol}
 use Rattle.code.specs.Division.{tap, Register, Shifted, raised, Remainder}
 use Rattle.code.proofs.Counting.{count_behind}
 use Rattle.code.proofs.Far.{far_apart}
 use Rattle.code.proofs.Generator.{tap-small, taps}
 use Rattle.code.proofs.Lifted.{small_is, value_is}
-use Rattle.code.proofs.Named.{named}
 use Rattle.code.proofs.Shifting.{still_register}
 
 infixl 60 ◌⊕◌
@@ -144,4 +143,4 @@ module _ (m register word : List ℕ) (size_m : length m ≡ 514) (small_m : (i 
       (λ i l. sym (get_or-take 514 c i 0 l) ∙ ap (λ xs. get_or xs i 0) same_front ∙ sym (first i l)))
 
   pub encoded : Encoded m word
-  encoded = record { codeword = codeword; begins = begins; only = only; named = named m word codeword begins only }
+  encoded = record { codeword = codeword; begins = begins; only = only }

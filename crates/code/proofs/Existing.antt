@@ -3,7 +3,9 @@ use Rattle.std.proofs.Common.{◌≡◌, ℕ, zero, suc, ◌+◌, ◌<◌, ◌�
 use lib.Bits.{bit_xor}
 use Rattle.std.proofs.lemmas.List.{length-set, get_or-replicate}
 use Rattle.polynomials.specs.Product.{times}
-use Rattle.code.specs.Answers.{Encoded, EachEncodes}
+use Rattle.code.specs.Code.{codeword_of}
+use Rattle.code.specs.Laws.{Encoded, EachEncodes}
+use Rattle.code.proofs.Named.{named}
 use Rattle.code.specs.Division.{tap, Shifted, Remainder}
 use Rattle.code.proofs.Division.{remainder_none, remainder_next, encoded}
 use Rattle.code.proofs.Shifting.{none-shifted, one_shifted}
@@ -47,4 +49,4 @@ pub each_encodes : EachEncodes
 each_encodes m size small =
     let r = register m 514 in
     let e : Encoded m (m ++ take 30 r) = encoded m r (m ++ take 30 r) size small (register_is m small 514 (omega arith)) refl in
-    subst (λ w. Encoded m w) e.named e
+    subst (λ w. Encoded m w) (named m _ e.codeword e.begins e.only) e

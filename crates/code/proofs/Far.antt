@@ -3,7 +3,8 @@ use Rattle.std.proofs.Common.{◌≡◌, ℕ, ◌<◌, ◌≤◌, List, length, 
 use Rattle.field.proofs.Distance.{codewords_equal}
 use Rattle.gf1024.specs.Field.{group, ring, element}
 use Rattle.gf1024.proofs.Powers.{laws}
-use Rattle.code.specs.Code.{Codeword, FarApart, distance}
+use Rattle.code.specs.Code.{Codeword, distance}
+use Rattle.code.specs.Laws.{FarApart}
 use Rattle.code.proofs.Counting.{triangle, listed}
 use Rattle.code.proofs.Lifted.{equal_symbols, point, points_apart, syndromes_zero}
 

@@ -2,7 +2,10 @@
 pub mod Counting
 pub mod Lifted
 pub mod Far
+mod Lists
 pub mod Named
+mod Near
+pub mod Refusals
 mod Words
 mod Answered
 mod Decoded
@@ -12,6 +15,7 @@ mod Shifting
 mod Division
 pub mod Existing
 mod WordRemainders
+mod Encodings
 pub mod Agree
 pub mod Turns
-mod Refusals
+mod InARow

@@ -1,56 +1,74 @@
--- Runs of refusals.
-use Rattle.std.proofs.Common.{◌≡◌, ℕ, zero, suc, ◌+◌, ◌<◌, ◌≤◌, ◌⊎◌, min, Result, Ok, Err, IsErr, refl, subst, inl, inr, le_of_suc-le-suc, eq-or-lt_of_le, eqb, arith}
-use Rattle.std.proofs.lemmas.Bool.{cases_Bool, cond-true, cond-false, eq-eqb, eqb-true}
+-- Why a word or a message is refused before anything else is asked of it.
+use Rattle.std.proofs.Common.{◌≡◌, ℕ, ◌<◌, ◌≤◌, Bool, true, false, eqb, ltb, cond, ◌⊎◌, List, length, get_or, Some, None, Option, sym, refl, ap, ◌∙◌, subst, inl, inr, arith}
+use Rattle.std.specs.Option.{option_map}
+use Rattle.std.proofs.lemmas.Bool.{cases_Bool, both_ways, cond-true, cond-false, eq-eqb, ne_eqb, eqb-true, ltb-true, ltb-false, le-ltb, lt-ltb}
+use Rattle.bits.specs.Lowest.{lowest}
+use Rattle.bits.proofs.Lowest.{none_below, lowest_none, lowest-found}
 use Rattle.code.specs.declared.refusal.Refusal.{Refusal}
-use Rattle.code.specs.Faults.{run_after, run_behind, run_checked, three_refusals, RunFaults}
+use Rattle.code.specs.declared.refusal.Refusal.TheVariants.{Length, Symbol, Reach}
+use Rattle.code.specs.Answers.{refusal_of}
+use Rattle.code.specs.Laws.{Lowest, Malformed}
+use Rattle.code.proofs.Lists.{lowest_some}
 
--- the last j of the first n answers were refusals
-abbrev Last : (ℕ → Result ℕ Refusal) → ℕ → ℕ → Type 0
-Last answers n j = (j ≤ n) × ((i : ℕ) → i < n → n ≤ i + j → IsErr (answers i))
+abbrev large : List ℕ → ℕ → Bool
+large w i = ltb 1023 (get_or w i 0)
 
--- at least j refusals in a row, j at most 3
-counted : (answers : ℕ → Result ℕ Refusal) (n j : ℕ) → j ≤ 3 → j ≤ run_behind answers n → Last answers n j
-counted answers zero j l h = (h, λ i k m. absurd (omega arith))
-counted answers (suc n) zero l h = (omega arith, λ i k m. absurd (omega arith))
-counted answers (suc n) (suc j) l h = go (answers n) refl (λ k. counted answers n j (omega arith) k) h
+-- a wrong length
+pub refused-length : (n : ℕ) (w : List ℕ) → (length w ≡ n → ⊥) → refusal_of n w ≡ Some Length
+unfolding refusal_of
+refused-length n w h = cond-false (eqb (length w) n) _ _ (ne_eqb (length w) n h)
+
+-- the right length: the symbols decide
+pub refused_so : (n : ℕ) (w : List ℕ) → length w ≡ n → refusal_of n w ≡ option_map Symbol (lowest (large w) n)
+unfolding refusal_of
+refused_so n w e = cond-true (eqb (length w) n) _ _ (eq-eqb (length w) n e)
+
+pub refused_some : (n : ℕ) (w : List ℕ) (e : Refusal) → refusal_of n w ≡ Some e → Malformed n w e
+refused_some n w e h = split (cases_Bool (eqb (length w) n))
   where
-    go : (r : Result ℕ Refusal) → answers n ≡ r → (j ≤ run_behind answers n → Last answers n j) → suc j ≤ run_after (run_behind answers n) (answers n) → Last answers (suc n) (suc j)
-    go (Ok m) e ih k = let z : suc j ≤ 0 = subst (λ r. suc j ≤ run_after (run_behind answers n) r) e k in absurd (omega arith)
-    go (Err x) e ih k =
-        let z : suc j ≤ min (run_behind answers n + 1) 3 = subst (λ r. suc j ≤ run_after (run_behind answers n) r) e k in
-        let t : Last answers n j = ih (omega arith) in
-        (omega arith, λ i q m. each t i (eq-or-lt_of_le (le_of_suc-le-suc q)) m)
-      where
-        each : Last answers n j → (i : ℕ) → (i ≡ n) ⊎ (i < n) → suc n ≤ i + suc j → IsErr (answers i)
-        each t i (inl q) m = rw (q, e) refl
-        each t i (inr q) m = t.1 i q (omega arith)
+    found : length w ≡ n → (o : Option ℕ) → lowest (large w) n ≡ o → option_map Symbol o ≡ Some e → Malformed n w e
+    found s None p q = absurd (cc)
+    found s (Some i) p q =
+        let t = lowest_some (large w) n i p in
+        let is : Symbol i ≡ e = cc in
+        subst (Malformed n w) is (s, record {
+          within = omega (arith, t.0);
+          large = ltb-true 1023 (get_or w i 0) t.1;
+          before = λ k l. (let z = ltb-false 1023 (get_or w k 0) (t.2 k l) in omega arith);
+        })
 
-counts : (answers : ℕ → Result ℕ Refusal) (n j : ℕ) → j ≤ 3 → Last answers n j → j ≤ run_behind answers n
-counts answers zero j l h = h.0
-counts answers (suc n) zero l h = omega arith
-counts answers (suc n) (suc j) l h = go (answers n) refl (counts answers n j (omega arith) (omega arith, λ i q m. h.1 i (omega arith) (omega arith))) (h.1 n (omega arith) (omega arith))
+    split : (eqb (length w) n ≡ true) ⊎ (eqb (length w) n ≡ false) → Malformed n w e
+    split (inl t) = let s = eqb-true (length w) n t in found s (lowest (large w) n) refl (sym (refused_so n w s) ∙ h)
+    split (inr f) =
+        let other : length w ≡ n → ⊥ = λ s. both_ways _ f (eq-eqb (length w) n s) in
+        let is : Length ≡ e = (let z = refused-length n w other in cc) in
+        subst (Malformed n w) is other
+
+pub refused_none : (n : ℕ) (w : List ℕ) → refusal_of n w ≡ None → (length w ≡ n) × ((i : ℕ) → i < n → get_or w i 0 < 1024)
+refused_none n w h = split (cases_Bool (eqb (length w) n))
   where
-    go : (r : Result ℕ Refusal) → answers n ≡ r → j ≤ run_behind answers n → IsErr (answers n) → suc j ≤ run_after (run_behind answers n) (answers n)
-    go (Ok m) e k is = cc
-    go (Err x) e k is = rw e (omega arith)
+    fine : (o : Option ℕ) → lowest (large w) n ≡ o → option_map Symbol o ≡ None → (i : ℕ) → i < n → get_or w i 0 < 1024
+    fine None p q i l = let z = ltb-false 1023 (get_or w i 0) (none_below (large w) n p i l) in omega arith
+    fine (Some k) p q i l = absurd (cc)
 
-three_at_most : (answers : ℕ → Result ℕ Refusal) (n : ℕ) → run_behind answers n ≤ 3
-three_at_most answers zero = omega arith
-three_at_most answers (suc n) = go (answers n)
-  where
-    go : (r : Result ℕ Refusal) → run_after (run_behind answers n) r ≤ 3
-    go (Ok m) = omega arith
-    go (Err x) = omega arith
+    split : (eqb (length w) n ≡ true) ⊎ (eqb (length w) n ≡ false) → (length w ≡ n) × ((i : ℕ) → i < n → get_or w i 0 < 1024)
+    split (inl t) = let s = eqb-true (length w) n t in (s, fine (lowest (large w) n) refl (sym (refused_so n w s) ∙ h))
+    split (inr f) = absurd (let z = refused-length n w (λ s. both_ways _ f (eq-eqb (length w) n s)) in cc)
 
--- the check tells a run of three
-three : (run position ticks : ℕ) → run_checked run position ticks ≡ Err (three_refusals position ticks) → run ≡ 3
-three run position ticks e = elim (cases_Bool (eqb run 3)) [
-  | inl t ↦ eqb-true run 3 t
-  | inr f ↦ let ok : run_checked run position ticks ≡ Ok tt = cond-false (eqb run 3) _ _ f in cc
-]
+-- the lowest symbol above 1,023 is named
+pub refused-symbol : (n : ℕ) (w : List ℕ) (i : ℕ) → length w ≡ n → Lowest w i → refusal_of n w ≡ Some (Symbol i)
+refused-symbol n w i e low =
+    refused_so n w e
+    ∙ ap (option_map Symbol)
+    (lowest-found (large w) i n (let l = low.within in omega arith) (lowest_none (large w) i (λ k l. le-ltb 1023 (get_or w k 0) (let s = low.before k l in omega arith)))
+    (lt-ltb 1023 (get_or w i 0) (let l = low.large in omega arith)))
 
-pub run_faults : RunFaults
-run_faults answers n position ticks = (
-  λ e. let t = three (run_behind answers n) position ticks e in counted answers n 3 (omega arith) (omega arith),
-  λ h. let l = counts answers n 3 (omega arith) h in let m = three_at_most answers n in cond-true _ _ _ (eq-eqb (run_behind answers n) 3 (omega arith)),
-)
+-- what is not n symbols of ten bits is refused for that
+pub refused-malformed : (n : ℕ) (w : List ℕ) (e : Refusal) → Malformed n w e → refusal_of n w ≡ Some e
+refused-malformed n w Length h = refused-length n w h
+refused-malformed n w (Symbol i) h = refused-symbol n w i h.0 h.1
+refused-malformed n w Reach h = absurd h
+
+-- n symbols of ten bits are not refused
+pub accepted : (n : ℕ) (w : List ℕ) → length w ≡ n → ((i : ℕ) → i < n → get_or w i 0 < 1024) → refusal_of n w ≡ None
+accepted n w e small = refused_so n w e ∙ ap (option_map Symbol) (lowest_none (large w) n (λ i l. le-ltb 1023 (get_or w i 0) (let s = small i l in omega arith)))

@@ -11,10 +11,16 @@ pub record Lowest (w : List ℕ) (i : ℕ) : Type 0 where
   pub large : 1024 ≤ slice_index w i
   pub before : (k : ℕ) → k < i → slice_index w k < 1024
 
+-- why a list is not n symbols of ten bits
+abbrev pub Malformed : ℕ → List ℕ → Refusal → Type 0
+Malformed n w Length = length w ≡ n → ⊥
+Malformed n w (Symbol i) = (length w ≡ n) × Lowest w i
+Malformed n w Reach = ⊥
+
 -- why an engine of that reach refuses the word w
 abbrev pub Refused : ℕ → List ℕ → Refusal → Type 0
-Refused reach w Length = length w ≡ 544 → ⊥
-Refused reach w (Symbol i) = (length w ≡ 544) × Lowest w i
+Refused reach w Length = Malformed 544 w Length
+Refused reach w (Symbol i) = Malformed 544 w (Symbol i)
 Refused reach w Reach = WellFormed w × ((c : List ℕ) → Codeword c → distance w c ≤ reach → ⊥)
 
 -- the word is left as a codeword that differs from it in n symbols

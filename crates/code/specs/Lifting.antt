@@ -34,7 +34,7 @@ abbrev pub Stored : List Element → ℕ → List ℕ → Type 0
 Stored es n w = (i : ℕ) → i < n → slice_index w i ≡ (at es i).value
 
 -- the word v is within fifteen of w, and no other that near can be a codeword
-pub record Candidate (w v : List ℕ) : Type 0 where
+pub record ProposedWord (w v : List ℕ) : Type 0 where
   pub formed : WellFormed v
   pub near : distance w v ≤ 15
   pub only : (c : List ℕ) → Codeword c → distance w c ≤ 15 → c ≡ v

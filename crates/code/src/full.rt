@@ -1,8 +1,8 @@
 // The engine of reach 15, by the decoder over any field.
-ghost use Rattle.std.specs.Prelude.{◌≡◌, ◌<◌, MatchResult};
+ghost use Rattle.std.specs.Prelude.{◌≡◌, ◌<◌, length, MatchResult};
 ghost use Rattle.code.specs.Code.{distance};
-ghost use Rattle.code.specs.Answers.{AnswersAgree, Refused};
-ghost use Rattle.code.specs.Lifting.{at, Loaded, Stored, Candidate};
+ghost use Rattle.code.specs.Laws.{Refused};
+ghost use Rattle.code.specs.Lifting.{at, Loaded, Stored, ProposedWord};
 ghost use Rattle.code.specs.Division.{RegisterValues, WordSyndromes};
 ghost use Rattle.std.proofs.Common.{lit≤};
 
@@ -11,7 +11,7 @@ use super::places::Places;
 use super::refusal::Refusal;
 use super::remainder::ShiftRegister;
 use super::symbols::{ROOTS, SIZE, Word};
-use decoder::{Row, Work};
+use decoder::{Received, Row, Work};
 use gf1024::Element;
 use std::array;
 
@@ -26,10 +26,7 @@ pub struct FullEngine {
 }
 
 impl FullEngine {
-    // The contract says of any two engines that the same reach brings the same answers.
-    pub fn new() -> FullEngine
-        ensures { AnswersAgree }
-    {
+    pub fn new() -> FullEngine {
         let zero = gf1024::from_bits(0);
         let row = Row {
             degree: 0,
@@ -62,18 +59,17 @@ impl FullEngine {
     // The one word within reach of a word that can be a codeword. Whether it is one is not checked.
     fn propose(&mut self, word: Word, syndromes: &[Element; ROOTS]) -> Result<[u16; SIZE], Refusal>
         requires { WordSyndromes word.symbols.now syndromes.now }
-        ensures { MatchResult result (Candidate word.entry.symbols.now) (Refused 15 word.entry.symbols.now) }
+        ensures { MatchResult result (ProposedWord word.entry.symbols.now) (Refused 15 word.entry.symbols.now) }
     {
-        let places = &self.places;
         let elements = load(word.symbols);
-        let mut corrected = elements;
-        let received = decoder::Word {
+        let received = Received {
             symbols: &elements,
-            points: &places.points,
+            points: &self.places.points,
+            syndromes,
+            reach: REACH,
         };
-        self.work
-            .propose(&received, syndromes, REACH, &mut corrected)?;
-        Ok(store(&corrected))
+        let proposal = self.work.propose(&received)?;
+        Ok(store(proposal))
     }
 }
 
@@ -86,7 +82,8 @@ fn load(symbols: &[u16; SIZE]) -> [Element; SIZE]
 }
 
 // The elements as symbols.
-fn store(elements: &[Element; SIZE]) -> [u16; SIZE]
+fn store(elements: &[Element]) -> [u16; SIZE]
+    requires { length elements.now ≡ 544 }
     ensures { Stored elements.now 544 result }
 {
     array::from_fn(

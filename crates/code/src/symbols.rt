@@ -1,7 +1,6 @@
 // The sizes of the code, and symbols that are checked.
-ghost use Rattle.std.specs.Prelude.{◌≡◌, ℕ, ◌<◌, ◌≤◌, length, None, Some, slice_index, MatchResult, nat_lt};
-ghost use Rattle.bits.specs.Lowest.{lowest};
-ghost use Rattle.code.specs.Answers.{refusal_of};
+ghost use Rattle.std.specs.Prelude.{◌≡◌, ℕ, ◌<◌, ◌≤◌, length, slice_index, MatchOption, MatchResult};
+ghost use Rattle.code.specs.Laws.{Lowest, Malformed};
 
 use super::refusal::Refusal;
 
@@ -27,7 +26,7 @@ pub type Word<'a> = Symbols<'a, SIZE>;
 
 // The lowest index of a symbol above 1,023.
 fn lowest_large(symbols: &[u16]) -> Option<usize>
-    ensures { result ≡ lowest (λ i. nat_lt 1023 (slice_index symbols.now i)) (length symbols.now) }
+    ensures { MatchOption result ((k : ℕ) → k < length symbols.now → slice_index symbols.now k < 1024) (Lowest symbols.now) }
 {
     symbols.iter().position(|s| *s > 1023)
 }
@@ -37,7 +36,7 @@ impl<'a, const N: usize> Symbols<'a, N> {
     // `check`, not `TryFrom`: of an array of N symbols a call asks that it fits in memory, and a conversion can ask nothing.
     pub fn check(symbols: &'a [u16]) -> Result<Symbols<'a, N>, Refusal>
         requires { N ≤ 544 }
-        ensures { MatchResult result (λ s. (s.symbols.now ≡ symbols.now) × (refusal_of N symbols.now ≡ None)) (λ e. refusal_of N symbols.now ≡ Some e) }
+        ensures { MatchResult result (λ s. s.symbols.now ≡ symbols.now) (Malformed N symbols.now) }
     {
         let whole = symbols.as_array::<N>().ok_or(Refusal::Length)?;
         match lowest_large(symbols) {

@@ -1,5 +1,5 @@
 -- Which answers bring the fault.
-use Rattle.code.proofs.Refusals.{run_faults}
+use Rattle.code.proofs.InARow.{run_faults}
 use Rattle.code.proofs.run.Run.check.Goals as goal
 
 pub returns-clause-law : goal.returns-clause-law
