@@ -4,9 +4,9 @@ use native.Mathlib.Decide.{dec_lt}
 use Rattle.code.specs.declared.refusal.Refusal.{Refusal}
 use Rattle.code.specs.declared.refusal.Refusal.TheVariants.{Length, Symbol, Reach}
 use Rattle.code.specs.Code.{distance}
-use Rattle.code.specs.Code.{WellFormed, Codeword, codeword_near}
+use Rattle.code.specs.Code.{WellFormed, codeword_near}
 use Rattle.code.specs.Answers.{refusal_of, unless, correction, corrected_count, corrected_word}
-use Rattle.code.specs.Laws.{Lowest, Refused, Repaired, Corrected, EngineLaws}
+use Rattle.code.specs.Laws.{Lowest, Malformed, Refused, Repaired, Corrected, EngineLaws}
 use Rattle.std.specs.Option.{ok_or}
 use Rattle.std.specs.Result.{result_map_both, result_unwrap_or}
 use Rattle.code.proofs.Existing.{each_encodes}
@@ -49,6 +49,12 @@ outcomes_agree reach h w v u (Ok n) (Err e) p q = absurd (never reach w v n e p 
 outcomes_agree reach h w v u (Err d) (Ok m) p q = absurd (never reach w u m d q p.1)
 outcomes_agree reach h w v u (Err d) (Err e) p q = (p.0 ∙ sym q.0, ap Err (same_refusal reach w d e p.1 q.1))
 
+-- a word that is not well formed is refused for that
+pub malformed_refused : (reach : ℕ) (w : List ℕ) (e : Refusal) → Malformed 544 w e → Refused reach w e
+malformed_refused reach w Length h = h
+malformed_refused reach w (Symbol i) h = h
+malformed_refused reach w Reach h = absurd h
+
 -- what a correction answers and leaves is what it is to be
 abbrev Outcome : ℕ → List ℕ → Result (List ℕ) Refusal → Type 0
 Outcome reach w c = Corrected reach w (result_unwrap_or c w) (result_map_both (distance w) (λ e. e) c)
@@ -61,14 +67,9 @@ corrects reach w = split (refusal_of 544 w) refl (codeword_near reach w) refl
     formed : refusal_of 544 w ≡ None → WellFormed w
     formed p = let t = refused_none 544 w p in record { size = t.0; symbols = t.1 }
 
-    malformed : (e : Refusal) → refusal_of 544 w ≡ Some e → Refused reach w e
-    malformed Length p = refused_some 544 w Length p
-    malformed (Symbol i) p = refused_some 544 w (Symbol i) p
-    malformed Reach p = absurd (refused_some 544 w Reach p)
-
     outcome : (o : Option Refusal) → refusal_of 544 w ≡ o → (c : Option (List ℕ)) → codeword_near reach w ≡ c → Outcome reach w (unless o (ok_or c Reach))
-    outcome (Some e) p c q = (refl, malformed e p)
-    outcome None p None q = (refl, formed p, near_none reach w q)
+    outcome (Some e) p c q = (refl, malformed_refused reach w e (refused_some 544 w e p))
+    outcome None p None q = (refl, (formed p, near_none reach w q))
     outcome None p (Some v) q = let t = near_some reach w v q in record { formed = formed p; codeword = t.0; changed = refl; within = t.1 }
 
     split : (o : Option Refusal) → refusal_of 544 w ≡ o → (c : Option (List ℕ)) → codeword_near reach w ≡ c → Outcome reach w (unless (refusal_of 544 w) (ok_or (codeword_near reach w) Reach))

@@ -6,7 +6,7 @@ use Rattle.code.specs.declared.refusal.Refusal.{Refusal}
 use Rattle.code.specs.declared.refusal.Refusal.TheVariants.{Length, Symbol, Reach}
 use Rattle.code.specs.Code.{codeword_of}
 use Rattle.code.specs.Answers.{refusal_of, unless, encoding, encode_answer, encoded_word}
-use Rattle.code.specs.Laws.{Malformed, Encoded, EncodeRefused, Encodes, EncodeLaws}
+use Rattle.code.specs.Laws.{Malformed, EncodeRefused, Encodes, EncodeLaws}
 use Rattle.code.proofs.Existing.{each_encodes}
 use Rattle.code.proofs.Refusals.{refused_some, refused_none, refused-malformed, accepted}
 

@@ -3,7 +3,6 @@ use Rattle.std.proofs.Common.{◌≡◌, ℕ, zero, suc, ◌+◌, ◌<◌, ◌�
 use lib.Bits.{bit_xor}
 use Rattle.std.proofs.lemmas.List.{length-set, get_or-replicate}
 use Rattle.polynomials.specs.Product.{times}
-use Rattle.code.specs.Code.{codeword_of}
 use Rattle.code.specs.Laws.{Encoded, EachEncodes}
 use Rattle.code.proofs.Named.{named}
 use Rattle.code.specs.Division.{tap, Shifted, Remainder}

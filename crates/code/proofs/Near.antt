@@ -1,7 +1,7 @@
 -- The codeword near a word, as its definition searches for it.
-use Rattle.std.proofs.Common.{◌≡◌, ℕ, ◌<◌, ◌≤◌, Bool, ◌&&◌, true, leb, List, length, Some, None, arith}
+use Rattle.std.proofs.Common.{◌≡◌, ℕ, ◌≤◌, Bool, ◌&&◌, leb, List, Some, None, arith}
 use Rattle.std.proofs.lemmas.Bool.{both_ways, and_from, and_parts, leb-true, le-leb}
-use Rattle.code.specs.Code.{WellFormed, Codeword, zero_at, codeword_near, distance}
+use Rattle.code.specs.Code.{Codeword, zero_at, codeword_near, distance}
 use Rattle.code.proofs.Lists.{first_some, first_none}
 use Rattle.code.proofs.Named.{all_small, zero_at_true, zero_at_roots}
 

@@ -1,5 +1,5 @@
 -- Why a word or a message is refused before anything else is asked of it.
-use Rattle.std.proofs.Common.{◌≡◌, ℕ, ◌<◌, ◌≤◌, Bool, true, false, eqb, ltb, cond, ◌⊎◌, List, length, get_or, Some, None, Option, sym, refl, ap, ◌∙◌, subst, inl, inr, arith}
+use Rattle.std.proofs.Common.{◌≡◌, ℕ, ◌<◌, Bool, true, false, eqb, ltb, ◌⊎◌, List, length, get_or, Some, None, Option, sym, refl, ap, ◌∙◌, subst, inl, inr, arith}
 use Rattle.std.specs.Option.{option_map}
 use Rattle.std.proofs.lemmas.Bool.{cases_Bool, both_ways, cond-true, cond-false, eq-eqb, ne_eqb, eqb-true, ltb-true, ltb-false, le-ltb, lt-ltb}
 use Rattle.bits.specs.Lowest.{lowest}
@@ -31,11 +31,14 @@ refused_some n w e h = split (cases_Bool (eqb (length w) n))
     found s (Some i) p q =
         let t = lowest_some (large w) n i p in
         let is : Symbol i ≡ e = cc in
-        subst (Malformed n w) is (s, record {
-          within = omega (arith, t.0);
-          large = ltb-true 1023 (get_or w i 0) t.1;
-          before = λ k l. (let z = ltb-false 1023 (get_or w k 0) (t.2 k l) in omega arith);
-        })
+        subst (Malformed n w) is (
+          s,
+          record {
+            within = omega (arith, t.0);
+            large = ltb-true 1023 (get_or w i 0) t.1;
+            before = λ k l. (let z = ltb-false 1023 (get_or w k 0) (t.2 k l) in omega arith);
+          },
+        )
 
     split : (eqb (length w) n ≡ true) ⊎ (eqb (length w) n ≡ false) → Malformed n w e
     split (inl t) = let s = eqb-true (length w) n t in found s (lowest (large w) n) refl (sym (refused_so n w s) ∙ h)

@@ -61,10 +61,11 @@ impl FullEngine {
         requires { WordSyndromes word.symbols.now syndromes.now }
         ensures { MatchResult result (ProposedWord word.entry.symbols.now) (Refused 15 word.entry.symbols.now) }
     {
+        let places = &self.places;
         let elements = load(word.symbols);
         let received = Received {
             symbols: &elements,
-            points: &self.places.points,
+            points: &places.points,
             syndromes,
             reach: REACH,
         };
@@ -88,7 +89,7 @@ fn store(elements: &[Element]) -> [u16; SIZE]
 {
     array::from_fn(
         |i| -> u16
-            requires { i < 544 }
+            requires { (i < 544) × (length elements.now ≡ 544) }
             ensures { result ≡ (at elements.entry.now i).value }
         { elements[i].value },
     )

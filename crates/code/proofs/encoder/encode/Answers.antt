@@ -1,5 +1,5 @@
 -- The message with its remainder is the codeword; the refusals are those of the definition.
-use Rattle.std.proofs.Common.{◌≡◌, List, ℕ, ◌++◌, take, Ok, Err, Result, ap₂, subst, refl}
+use Rattle.std.proofs.Common.{◌≡◌, List, ℕ, ◌++◌, take, Ok, Err, ap₂, subst, refl}
 use Rattle.std.proofs.lemmas.Result.{err_from_is_err_and}
 use Rattle.code.specs.declared.refusal.Refusal.{Refusal}
 use Rattle.code.specs.declared.refusal.Refusal.TheVariants.{Length}

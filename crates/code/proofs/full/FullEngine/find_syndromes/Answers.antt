@@ -21,7 +21,7 @@ returns c =
     let turns : Falling r 30 c.reverse.new.self = rw c.reverse.ensures.after (turned r front size is) in
     let count : length c.reverse.new.self ≡ 30 = c.reverse.ensures.len ∙ size in
     register_values r c.reverse.new.self roots c.evaluate.new.values turns c.args.self.now.places.powers (omega arith)
-    (subst (λ (n : ℕ). Values group ring (falling group c.reverse.new.self n) n roots (length roots) c.evaluate.new.values) count c.evaluate.ensures)
+    (subst (λ (n : ℕ). Values group ring (falling group c.reverse.new.self n) n roots (length roots) c.evaluate.new.values) count (λ i l. c.evaluate.ensures.values i (omega arith)))
 
 pub slice_bounds-coefficients-end-2 : goal.slice_bounds-coefficients-end-2
 slice_bounds-coefficients-end-2 c = sym (length-take-le 30 c.map-coefficients.result (let l = c.map-coefficients.ensures.items.long in omega arith))
