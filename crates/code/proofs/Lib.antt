@@ -2,9 +2,9 @@
 pub mod Counting
 pub mod Lifted
 pub mod Far
-mod Lists
+pub mod Lists
 pub mod Named
-mod Near
+pub mod Near
 pub mod Refusals
 mod Words
 mod Answered
@@ -15,7 +15,7 @@ mod Shifting
 mod Division
 pub mod Existing
 mod WordRemainders
-mod Encodings
+pub mod Encodings
 pub mod Agree
 pub mod Turns
 mod InARow

@@ -24,6 +24,10 @@ run_after run (Err e) = min (run + 1) 3
 abbrev pub run_checked : ℕ → ℕ → ℕ → Result (Unit {0}) Fault
 run_checked run position ticks = if run == 3 then Err (three_refusals position ticks) else Ok tt
 
+-- of the two words of a pair, A is named before B
+abbrev pub runs_checked : ℕ → ℕ → ℕ → Result (Unit {0}) Fault
+runs_checked a b ticks = if a == 3 then Err (three_refusals 0 ticks) else run_checked b 1 ticks
+
 -- the refusals in a row behind the first n answers
 abbrev pub run_behind : (ℕ → Result ℕ Refusal) → ℕ → ℕ
 run_behind answers zero = 0

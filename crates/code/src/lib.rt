@@ -19,6 +19,6 @@ pub use engine::Engine;
 pub use fault::{Cause, Fault};
 pub use full::FullEngine;
 pub use refusal::Refusal;
-pub use run::Run;
+pub use run::{Run, Runs};
 pub use watch::WatchEngine;
 pub use word::is_codeword;

@@ -52,3 +52,44 @@ impl Run {
         Ok(())
     }
 }
+
+// The runs of both words of the pairs. A refusal of one is none of the other.
+#[derive(Drop)]
+pub struct Runs {
+    a: Run,
+    b: Run,
+}
+
+impl Runs {
+    ghost use Rattle.std.specs.Prelude.{◌≡◌};
+    ghost use Rattle.code.specs.Faults.{run_after, runs_checked};
+    ghost use Rattle.code.specs.Runs.{refusals_of_a, refusals_of_b};
+
+    // No refusal yet.
+    pub fn new() -> Runs
+        ensures a { refusals_of_a result ≡ 0 }
+        ensures b { refusals_of_b result ≡ 0 }
+    {
+        Runs {
+            a: Run::new(),
+            b: Run::new(),
+        }
+    }
+
+    // Goes on by what an engine answered to word A and to word B of a pair.
+    pub fn push(&mut self, a: &Result<usize, Refusal>, b: &Result<usize, Refusal>)
+        ensures a { refusals_of_a self.new ≡ run_after (refusals_of_a self.old) a.now }
+        ensures b { refusals_of_b self.new ≡ run_after (refusals_of_b self.old) b.now }
+    {
+        self.a.push(a);
+        self.b.push(b);
+    }
+
+    // The fault of three refusals in a row, so that `?` hands it up: of word A if both have them.
+    pub fn check(&self, ticks: u64) -> Result<(), Fault>
+        ensures { result ≡ runs_checked (refusals_of_a self.now) (refusals_of_b self.now) ticks }
+    {
+        self.a.check(0, ticks)?;
+        self.b.check(1, ticks)
+    }
+}
