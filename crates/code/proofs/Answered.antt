@@ -2,10 +2,10 @@
 use Rattle.std.proofs.Common.{◌≡◌, ℕ, ◌≤◌, List, get_or, Ok, Err, Result, sym, refl, ◌∙◌, subst, arith, ext_get_or}
 use Rattle.code.specs.Code.{WellFormed, Codeword, distance}
 use Rattle.code.specs.declared.refusal.Refusal.{Refusal}
-use Rattle.code.specs.Laws.{Lowest, Repaired, Corrected}
+use Rattle.code.specs.Laws.{IsLowestLarge, Repaired, Corrected}
 use Rattle.code.proofs.Counting.{count_none, none_counted}
 
-pub not_formed : (w : List ℕ) (i : ℕ) → Lowest w i → WellFormed w → ⊥
+pub not_formed : (w : List ℕ) (i : ℕ) → IsLowestLarge w i → WellFormed w → ⊥
 not_formed w i low formed =
     let s = formed.size in
     let l = low.within in

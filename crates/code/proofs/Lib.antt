@@ -16,6 +16,6 @@ mod Division
 pub mod Existing
 mod WordRemainders
 pub mod Encodings
-pub mod Agree
+pub mod Engines
 pub mod Turns
 mod InARow

@@ -7,7 +7,7 @@ use Rattle.bits.proofs.Lowest.{none_below, lowest_none, lowest-found}
 use Rattle.code.specs.declared.refusal.Refusal.{Refusal}
 use Rattle.code.specs.declared.refusal.Refusal.TheVariants.{Length, Symbol, Reach}
 use Rattle.code.specs.Answers.{refusal_of}
-use Rattle.code.specs.Laws.{Lowest, Malformed}
+use Rattle.code.specs.Laws.{IsLowestLarge, Malformed}
 use Rattle.code.proofs.Lists.{lowest_some}
 
 abbrev large : List ℕ → ℕ → Bool
@@ -59,7 +59,7 @@ refused_none n w h = split (cases_Bool (eqb (length w) n))
     split (inr f) = absurd (let z = refused-length n w (λ s. both_ways _ f (eq-eqb (length w) n s)) in cc)
 
 -- the lowest symbol above 1,023 is named
-pub refused-symbol : (n : ℕ) (w : List ℕ) (i : ℕ) → length w ≡ n → Lowest w i → refusal_of n w ≡ Some (Symbol i)
+pub refused-symbol : (n : ℕ) (w : List ℕ) (i : ℕ) → length w ≡ n → IsLowestLarge w i → refusal_of n w ≡ Some (Symbol i)
 refused-symbol n w i e low =
     refused_so n w e
     ∙ ap (option_map Symbol)

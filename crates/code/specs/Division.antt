@@ -1,5 +1,5 @@
 -- The division of a message by the generator, in a register of thirty symbols and three zeros behind them.
-use Rattle.std.specs.Prelude.{◌≡◌, ℕ, ◌+◌, ◌-◌, ◌<◌, ◌≤◌, cond, List, length, bit_xor, nat_lt, slice_index}
+use Rattle.std.specs.Prelude.{◌≡◌, ℕ, ◌+◌, ◌-◌, ◌<◌, ◌≤◌, List, length, bit_xor, if◌then◌else◌, nat_lt, slice_index}
 use Rattle.field.specs.Sums.{pow, word_value}
 use Rattle.gf1024.specs.declared.element.Element.{Element}
 use Rattle.polynomials.specs.Product.{times}
@@ -9,7 +9,7 @@ use Rattle.code.specs.Lifting.{at, symbol}
 
 -- the coefficient of degree 29 - j of the generator, and zero behind those
 unfoldable pub tap : ℕ → ℕ
-tap j = cond (nat_lt j 30) (slice_index (generator 30) (29 - j)) 0
+tap j = if nat_lt j 30 then slice_index (generator 30) (29 - j) else 0
 
 pub record Register (r : List ℕ) : Type 0 where
   pub size : length r ≡ 33

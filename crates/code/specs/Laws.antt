@@ -6,7 +6,7 @@ use Rattle.code.specs.Code.{WellFormed, Codeword, message_of, codeword_of, dista
 use Rattle.code.specs.Answers.{corrected_count, corrected_word, encode_answer, encoded_word}
 
 -- i is the lowest index of a symbol above 1,023
-pub record Lowest (w : List ℕ) (i : ℕ) : Type 0 where
+pub record IsLowestLarge (w : List ℕ) (i : ℕ) : Type 0 where
   pub within : i < length w
   pub large : 1024 ≤ slice_index w i
   pub before : (k : ℕ) → k < i → slice_index w k < 1024
@@ -14,7 +14,7 @@ pub record Lowest (w : List ℕ) (i : ℕ) : Type 0 where
 -- why a list is not n symbols of ten bits
 abbrev pub Malformed : ℕ → List ℕ → Refusal → Type 0
 Malformed n w Length = length w ≡ n → ⊥
-Malformed n w (Symbol i) = (length w ≡ n) × Lowest w i
+Malformed n w (Symbol i) = (length w ≡ n) × IsLowestLarge w i
 Malformed n w Reach = ⊥
 
 -- why an engine of that reach refuses the word w
@@ -67,7 +67,7 @@ pub record EngineLaws (reach : ℕ) : Type 0 where
 -- why a message is not encoded into the word
 abbrev pub EncodeRefused : List ℕ → List ℕ → Refusal → Type 0
 EncodeRefused message word Length = ((length message ≡ 514) × (length word ≡ 544)) → ⊥
-EncodeRefused message word (Symbol i) = (length message ≡ 514) × (length word ≡ 544) × Lowest message i
+EncodeRefused message word (Symbol i) = (length message ≡ 514) × (length word ≡ 544) × IsLowestLarge message i
 EncodeRefused message word Reach = ⊥
 
 -- what encoding makes of the word

@@ -268,7 +268,7 @@ const HIGH: [[u16; 32]; 32] = [
 ];
 
 // The product of the element a and the tap p: the sum of those of its lower five bits and of its upper ones.
-pub fn product(a: u16, p: usize) -> u16
+pub(crate) fn product(a: u16, p: usize) -> u16
     requires { (a < 1024) × (p < 32) }
     ensures { result ≡ times a (tap p) }
 {

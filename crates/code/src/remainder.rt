@@ -37,7 +37,7 @@ impl ShiftRegister {
 
 impl<const N: usize> Symbols<'_, N> {
     // The remainder of the first 514 symbols times x^30.
-    pub fn divide(self) -> ShiftRegister
+    pub(crate) fn divide(self) -> ShiftRegister
         requires { (514 ≤ N) × (N ≤ 544) }
         ensures { Remainder self.entry.symbols.now 514 result.symbols }
     {

@@ -1,6 +1,6 @@
 // The sizes of the code, and symbols that are checked.
 ghost use Rattle.std.specs.Prelude.{◌≡◌, ℕ, ◌<◌, ◌≤◌, length, slice_index, MatchOption, MatchResult};
-ghost use Rattle.code.specs.Laws.{Lowest, Malformed};
+ghost use Rattle.code.specs.Laws.{IsLowestLarge, Malformed};
 
 use super::refusal::Refusal;
 
@@ -26,7 +26,7 @@ pub type Word<'a> = Symbols<'a, SIZE>;
 
 // The lowest index of a symbol above 1,023.
 fn lowest_large(symbols: &[u16]) -> Option<usize>
-    ensures { MatchOption result ((k : ℕ) → k < length symbols.now → slice_index symbols.now k < 1024) (Lowest symbols.now) }
+    ensures { MatchOption result ((k : ℕ) → k < length symbols.now → slice_index symbols.now k < 1024) (IsLowestLarge symbols.now) }
 {
     symbols.iter().position(|s| *s > 1023)
 }
@@ -34,7 +34,7 @@ fn lowest_large(symbols: &[u16]) -> Option<usize>
 impl<'a, const N: usize> Symbols<'a, N> {
     // Refuses a slice of another length, or with a symbol above 1,023.
     // `check`, not `TryFrom`: of an array of N symbols a call asks that it fits in memory, and a conversion can ask nothing.
-    pub fn check(symbols: &'a [u16]) -> Result<Symbols<'a, N>, Refusal>
+    pub(crate) fn check(symbols: &'a [u16]) -> Result<Symbols<'a, N>, Refusal>
         requires { N ≤ 544 }
         ensures { MatchResult result (λ s. s.symbols.now ≡ symbols.now) (Malformed N symbols.now) }
     {

@@ -19,7 +19,7 @@ use Rattle.decoder.specs.Elimination.{Candidate}
 use Rattle.std.proofs.lemmas.List.{get_or-take}
 use Rattle.decoder.proofs.Evaluation.{found_all}
 use Rattle.decoder.proofs.Stages.{row_at_reach}
-use Rattle.decoder.proofs.ErrorValues.{remaining-same, remaining_term, gaps_open}
+use Rattle.decoder.proofs.ErrorValues.{without_terms-same, without_terms-term, gaps_open}
 
 abbrev Place : (ℕ → ℕ) → ℕ → ℕ → Type 0
 Place f m i = (t : ℕ) × (t < m) × (f t ≡ i)
@@ -148,10 +148,10 @@ module _ {F : Type 0} (g : Group F) (r : Ring F) (laws : FieldLaws g r) where
           value : (t : ℕ) → t < m → error_value g r spots (λ k. get_or front k 𝟎) m t ≡ err (place t)
           value t h =
               ap (λ z. z ⊗ over (gaps g r spots t m))
-              (remaining-same g r laws spots (λ k. get_or front k 𝟎) (syndrome g r n (λ k. get_or xs k 𝟎) err) m t
+              (without_terms-same g r laws spots (λ k. get_or front k 𝟎) (syndrome g r n (λ k. get_or xs k 𝟎) err) m t
               (λ k q. same k q ∙ syn k (let f = few in omega arith) ∙ error_syndrome g r laws n (2 * reach) (λ k. get_or xs k 𝟎) (λ k. get_or word k 𝟎) (λ k. get_or c k 𝟎) code k (let f = few in omega arith))
               m 0 (λ z. absurd (omega arith)) (λ z. (omega arith))
-              ∙ remaining_term g r laws n (λ k. get_or xs k 𝟎) spots place t err m h at (lists.within t h) found_at)
+              ∙ without_terms-term g r laws n (λ k. get_or xs k 𝟎) spots place t err m h at (lists.within t h) found_at)
               ∙ laws.assoc (err (place t)) (gaps g r spots t m) (over (gaps g r spots t m)) ∙ ap (λ z. err (place t) ⊗ z) (laws.inverse (gaps g r spots t m) (open_gaps spots at t h)) ∙ one_right g r laws (err (place t))
 
           back : (k : ℕ) → get_or word k 𝟎 ⊕ minus (err k) ≡ get_or c k 𝟎

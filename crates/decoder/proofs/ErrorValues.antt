@@ -6,7 +6,7 @@ use Rattle.field.proofs.Algebra.{zero-times, times_zero, one_right, cancel, equa
 use Rattle.field.proofs.Sums.{sum_one}
 use Rattle.field.specs.Sums.{syndrome}
 use Rattle.field.proofs.Vandermonde.{without, shifted}
-use Rattle.decoder.specs.Errors.{remaining, gaps, dropped}
+use Rattle.decoder.specs.Errors.{without_terms, gaps, without_term}
 
 module _ {F : Type 0} (g : Group F) (r : Ring F) (laws : FieldLaws g r) where
   infixl 60 ◌⊕◌
@@ -15,13 +15,13 @@ module _ {F : Type 0} (g : Group F) (r : Ring F) (laws : FieldLaws g r) where
   open r use {one as 𝟏, times as ◌⊗◌}
   open laws use {adds}
 
-  pub remaining-same : (xs : List F) (s s' : ℕ → F) (m j : ℕ) → ((k : ℕ) → k < m → s k ≡ s' k) → (l k : ℕ) → (l ≤ j → k + l < m) → (j < l → k + l < m + 1) → remaining g r xs s j l k ≡ remaining g r xs s' j l k
-  remaining-same xs s s' m j h zero k a b = h k (omega (arith, a (omega arith)))
-  remaining-same xs s s' m j h (suc l) k a b =
-      go (eqb l j) refl (λ k. remaining-same xs s s' m j h l k)
+  pub without_terms-same : (xs : List F) (s s' : ℕ → F) (m j : ℕ) → ((k : ℕ) → k < m → s k ≡ s' k) → (l k : ℕ) → (l ≤ j → k + l < m) → (j < l → k + l < m + 1) → without_terms g r xs s j l k ≡ without_terms g r xs s' j l k
+  without_terms-same xs s s' m j h zero k a b = h k (omega (arith, a (omega arith)))
+  without_terms-same xs s s' m j h (suc l) k a b =
+      go (eqb l j) refl (λ k. without_terms-same xs s s' m j h l k)
     where
-      go : (t : Bool) → eqb l j ≡ t → ((k : ℕ) → (l ≤ j → k + l < m) → (j < l → k + l < m + 1) → remaining g r xs s j l k ≡ remaining g r xs s' j l k)
-          → cond t (remaining g r xs s j l) (dropped g r (get_or xs l 𝟎) (remaining g r xs s j l)) k ≡ cond t (remaining g r xs s' j l) (dropped g r (get_or xs l 𝟎) (remaining g r xs s' j l)) k
+      go : (t : Bool) → eqb l j ≡ t → ((k : ℕ) → (l ≤ j → k + l < m) → (j < l → k + l < m + 1) → without_terms g r xs s j l k ≡ without_terms g r xs s' j l k)
+          → cond t (without_terms g r xs s j l) (without_term g r (get_or xs l 𝟎) (without_terms g r xs s j l)) k ≡ cond t (without_terms g r xs s' j l) (without_term g r (get_or xs l 𝟎) (without_terms g r xs s' j l)) k
       go true e ih = let q : l ≡ j = eqb-true l j e in ih k (λ z. (let w = b (omega arith) in omega arith)) (λ z. (omega arith))
       go false e ih =
           let q = eqb-false l j e in
@@ -37,12 +37,12 @@ module _ {F : Type 0} (g : Group F) (r : Ring F) (laws : FieldLaws g r) where
     chain zero = e
     chain (suc l) = cond (eqb l j) (chain l) (without g r laws x (f l) (chain l))
 
-    remaining-syndrome : (l : ℕ) → ((t : ℕ) → t < l → get_or xs t 𝟎 ≡ x (f t)) → (k : ℕ) → remaining g r xs (syndrome g r n x e) j l k ≡ syndrome g r n x (chain l) k
-    remaining-syndrome zero h k = refl
-    remaining-syndrome (suc l) h k = go (eqb l j) (remaining-syndrome l (λ t q. h t (omega arith)))
+    without_terms-syndrome : (l : ℕ) → ((t : ℕ) → t < l → get_or xs t 𝟎 ≡ x (f t)) → (k : ℕ) → without_terms g r xs (syndrome g r n x e) j l k ≡ syndrome g r n x (chain l) k
+    without_terms-syndrome zero h k = refl
+    without_terms-syndrome (suc l) h k = go (eqb l j) (without_terms-syndrome l (λ t q. h t (omega arith)))
       where
-        go : (t : Bool) → ((k : ℕ) → remaining g r xs (syndrome g r n x e) j l k ≡ syndrome g r n x (chain l) k)
-            → cond t (remaining g r xs (syndrome g r n x e) j l) (dropped g r (get_or xs l 𝟎) (remaining g r xs (syndrome g r n x e) j l)) k ≡ syndrome g r n x (cond t (chain l) (without g r laws x (f l) (chain l))) k
+        go : (t : Bool) → ((k : ℕ) → without_terms g r xs (syndrome g r n x e) j l k ≡ syndrome g r n x (chain l) k)
+            → cond t (without_terms g r xs (syndrome g r n x e) j l) (without_term g r (get_or xs l 𝟎) (without_terms g r xs (syndrome g r n x e) j l)) k ≡ syndrome g r n x (cond t (chain l) (without g r laws x (f l) (chain l))) k
         go true ih = ih k
         go false ih =
             ap₂ (λ u v. u ⊕ v) (ih (k + 1) ∙ ap (syndrome g r n x (chain l)) (add-one k)) (ap₂ (λ u v. minus u ⊗ v) (h l (omega arith)) (ih k))
@@ -80,10 +80,10 @@ module _ {F : Type 0} (g : Group F) (r : Ring F) (laws : FieldLaws g r) where
         go false ih =
             ap₂ (λ u v. u ⊗ v) ih (ap₂ (λ u v. u ⊕ minus v) (sym h) (sym (k l (omega arith)))) ∙ laws.assoc (e (f j)) (gaps g r xs j l) (get_or xs j 𝟎 ⊕ minus (get_or xs l 𝟎))
 
-    -- what is remaining is the error-value at j, times the gaps
-    pub remaining_term : (m : ℕ) → j < m → ((t : ℕ) → t < m → get_or xs t 𝟎 ≡ x (f t)) → f j < n → ((i : ℕ) → i < n → (e i ≡ 𝟎) ⊎ ((t : ℕ) × (t < m) × (f t ≡ i))) → remaining g r xs (syndrome g r n x e) j m 0 ≡ e (f j) ⊗ gaps g r xs j m
-    remaining_term m h at small w =
-        remaining-syndrome m at 0
+    -- what is left is the error-value at j, times the gaps
+    pub without_terms-term : (m : ℕ) → j < m → ((t : ℕ) → t < m → get_or xs t 𝟎 ≡ x (f t)) → f j < n → ((i : ℕ) → i < n → (e i ≡ 𝟎) ⊎ ((t : ℕ) × (t < m) × (f t ≡ i))) → without_terms g r xs (syndrome g r n x e) j m 0 ≡ e (f j) ⊗ gaps g r xs j m
+    without_terms-term m h at small w =
+        without_terms-syndrome m at 0
         ∙ sum_one g r laws n (λ i. chain m i ⊗ 𝟏) (f j) small (λ i l ne. ap (λ z. z ⊗ 𝟏) (gone i ne (w i l)) ∙ zero-times g r laws 𝟏)
         ∙ one_right g r laws (chain m (f j)) ∙ chain_gaps m (at j h) at
       where

@@ -1,5 +1,5 @@
 -- Error places as roots of the locator, and error values from the syndromes.
-use Rattle.std.specs.Prelude.{◌≡◌, ℕ, zero, suc, ◌+◌, ◌<◌, ◌≤◌, cond, List, get_or, ◌==◌, ◌≢◌, slice_index, slice_index_or}
+use Rattle.std.specs.Prelude.{◌≡◌, ℕ, zero, suc, ◌+◌, ◌<◌, ◌≤◌, if◌then◌else◌, List, get_or, ◌==◌, ◌≢◌, slice_index, slice_index_or}
 use Rattle.field.specs.Laws.{Group, Ring}
 use Rattle.decoder.specs.Words.{row_value}
 
@@ -12,22 +12,22 @@ pub record Found {F : Type 0} (g : Group F) (r : Ring F) (v : List F) (d : ℕ) 
   pub all : (i : ℕ) → i < n → row_value g r d v (slice_index_or xs i g.zero) ≡ g.zero → (t : ℕ) × (t < count) × (slice_index found t ≡ i)
 
 -- the syndromes s without the term at the point x
-abbrev pub dropped : {F : Type 0} → Group F → Ring F → F → (ℕ → F) → ℕ → F
-dropped g r x s k = g.plus (s (k + 1)) (r.times (g.minus x) (s k))
+abbrev pub without_term : {F : Type 0} → Group F → Ring F → F → (ℕ → F) → ℕ → F
+without_term g r x s k = g.plus (s (k + 1)) (r.times (g.minus x) (s k))
 
 -- the syndromes without the terms at the first l of xs, but for that at j
-abbrev pub remaining : {F : Type 0} → Group F → Ring F → List F → (ℕ → F) → ℕ → ℕ → ℕ → F
-remaining g r xs s j zero = s
-remaining g r xs s j (suc l) = cond (l == j) (remaining g r xs s j l) (dropped g r (slice_index_or xs l g.zero) (remaining g r xs s j l))
+abbrev pub without_terms : {F : Type 0} → Group F → Ring F → List F → (ℕ → F) → ℕ → ℕ → ℕ → F
+without_terms g r xs s j zero = s
+without_terms g r xs s j (suc l) = if l == j then without_terms g r xs s j l else without_term g r (slice_index_or xs l g.zero) (without_terms g r xs s j l)
 
 -- the product of the differences of the point at j and each of the first l of xs but for itself
 abbrev pub gaps : {F : Type 0} → Group F → Ring F → List F → ℕ → ℕ → F
 gaps g r xs j zero = r.one
-gaps g r xs j (suc l) = cond (l == j) (gaps g r xs j l) (r.times (gaps g r xs j l) (g.plus (slice_index_or xs j g.zero) (g.minus (slice_index_or xs l g.zero))))
+gaps g r xs j (suc l) = if l == j then gaps g r xs j l else r.times (gaps g r xs j l) (g.plus (slice_index_or xs j g.zero) (g.minus (slice_index_or xs l g.zero)))
 
 -- the error at the point j of the m points xs
 abbrev pub error_value : {F : Type 0} → Group F → Ring F → List F → (ℕ → F) → ℕ → ℕ → F
-error_value g r xs s m j = r.times (remaining g r xs s j m 0) (r.over (gaps g r xs j m))
+error_value g r xs s m j = r.times (without_terms g r xs s j m 0) (r.over (gaps g r xs j m))
 
 -- out is old less the error values at the first j of the m places found
 pub record Subtracted {F : Type 0} (g : Group F) (r : Ring F) (old : List F) (found : List ℕ) (xs s : List F) (m j : ℕ) (out : List F) : Type 0 where

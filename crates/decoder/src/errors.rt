@@ -1,12 +1,12 @@
 // The error values from the syndromes, and the word without them.
 ghost use Rattle.std.specs.Prelude.{◌≡◌, ℕ, ◌+◌, ◌<◌, ◌≤◌, length, get_or, slice_index, slice_index_or};
-ghost use Rattle.decoder.specs.Errors.{dropped, error_value, Subtracted};
+ghost use Rattle.decoder.specs.Errors.{without_term, error_value, Subtracted};
 
 use field::Field;
 
 // Takes the term at the point x away from the syndromes t; the last of them is spent.
 fn drop_term<F: Field + Copy>(t: &mut [F], x: F)
-    ensures { (k : ℕ) → k + 1 < length t.old → slice_index_or t.new k F.Adds.group.zero ≡ dropped F.Adds.group F.Field.ring x (λ i. get_or t.old i F.Adds.group.zero) k }
+    ensures { (k : ℕ) → k + 1 < length t.old → slice_index_or t.new k F.Adds.group.zero ≡ without_term F.Adds.group F.Field.ring x (λ i. get_or t.old i F.Adds.group.zero) k }
 {
     // By index: each is made of itself and of the next, and no iterator writes one of a pair of neighbours.
     for k in 1..t.len() {

@@ -5,7 +5,7 @@ use Rattle.code.specs.declared.refusal.Refusal.{Refusal}
 use Rattle.code.specs.declared.refusal.Refusal.TheVariants.{Reach}
 use Rattle.code.specs.Code.{Codeword, distance}
 use Rattle.code.specs.Laws.{Refused, Repaired}
-use Rattle.code.proofs.Agree.{malformed_refused, engine_so}
+use Rattle.code.proofs.Engines.{malformed_refused, engine_so}
 use Rattle.code.proofs.Answered.{untouched}
 use Rattle.code.proofs.WordRemainders.{codeword, word_values}
 use Rattle.code.proofs.Words.{formed}

@@ -4,7 +4,7 @@ use Rattle.std.proofs.lemmas.Result.{err_from_is_err_and}
 use Rattle.code.specs.declared.refusal.Refusal.{Refusal}
 use Rattle.code.specs.declared.refusal.Refusal.TheVariants.{Reach}
 use Rattle.code.specs.Laws.{Refused, Repaired}
-use Rattle.code.proofs.Agree.{malformed_refused, engine_so}
+use Rattle.code.proofs.Engines.{malformed_refused, engine_so}
 use Rattle.code.proofs.Answered.{untouched, none-near}
 use Rattle.code.proofs.Words.{formed}
 use Rattle.code.proofs.watch.WatchEngineEngine.correct.Goals as goal

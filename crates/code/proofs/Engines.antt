@@ -1,4 +1,4 @@
--- What an engine answers to a word, and how it leaves it, follows from its reach alone.
+-- What an engine answers to a word, and how it leaves it: the definitions say what they are to say, and no other outcome would.
 use Rattle.std.proofs.Common.{◌≡◌, ℕ, ◌<◌, ◌≤◌, List, Ok, Err, Result, Some, None, Option, sym, subst, refl, ap, ◌∙◌, arith}
 use native.Mathlib.Decide.{dec_lt}
 use Rattle.code.specs.declared.refusal.Refusal.{Refusal}
@@ -6,7 +6,7 @@ use Rattle.code.specs.declared.refusal.Refusal.TheVariants.{Length, Symbol, Reac
 use Rattle.code.specs.Code.{distance}
 use Rattle.code.specs.Code.{WellFormed, codeword_near}
 use Rattle.code.specs.Answers.{refusal_of, unless, correction, corrected_count, corrected_word}
-use Rattle.code.specs.Laws.{Lowest, Malformed, Refused, Repaired, Corrected, EngineLaws}
+use Rattle.code.specs.Laws.{IsLowestLarge, Malformed, Refused, Repaired, Corrected, EngineLaws}
 use Rattle.std.specs.Option.{ok_or}
 use Rattle.std.specs.Result.{result_map_both, result_unwrap_or}
 use Rattle.code.proofs.Existing.{each_encodes}
@@ -15,7 +15,7 @@ use Rattle.code.proofs.Refusals.{refused_some, refused_none}
 use Rattle.code.proofs.Answered.{not_formed, watching_keeps}
 use Rattle.code.proofs.Far.{far_apart}
 
-lowest_is : (w : List ℕ) (i j : ℕ) → Lowest w i → Lowest w j → i ≡ j
+lowest_is : (w : List ℕ) (i j : ℕ) → IsLowestLarge w i → IsLowestLarge w j → i ≡ j
 lowest_is w i j p q = go (dec_lt i j) (dec_lt j i)
   where
     go : Dec (i < j) → Dec (j < i) → i ≡ j
