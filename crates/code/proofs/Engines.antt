@@ -84,7 +84,7 @@ engine_laws reach small = record {
       (sym t.0, sym t.1);
   watches = λ e w. watching_keeps w (corrected_word reach w) (corrected_count reach w) (subst (λ n. Corrected n w (corrected_word reach w) (corrected_count reach w)) e (corrects reach w));
   apart = far_apart;
-  encodes = each_encodes;
+  each = each_encodes;
 }
   where
     alone : (w v : List ℕ) (r : Result ℕ Refusal) → Corrected reach w v r → (v ≡ corrected_word reach w) × (r ≡ corrected_count reach w)

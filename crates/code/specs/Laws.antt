@@ -62,7 +62,7 @@ pub record EngineLaws (reach : ℕ) : Type 0 where
   -- at reach 0 every word stays as it is
   pub watches : reach ≡ 0 → (w : List ℕ) → corrected_word reach w ≡ w
   pub apart : FarApart
-  pub encodes : EachEncodes
+  pub each : EachEncodes
 
 -- why a message is not encoded into the word
 abbrev pub EncodeRefused : List ℕ → List ℕ → Refusal → Type 0
