@@ -1,6 +1,7 @@
 pub mod Markers
 pub mod Letters
 pub mod Rates
+pub mod Lawful
 pub mod Folds
 pub mod Locks
 pub mod LockRules

@@ -1,6 +1,7 @@
 -- The lock machine of one position. Assumes nothing.
-use Rattle.std.specs.Prelude.{ℕ, ◌+◌, ◌-◌, Bool, false, cond, Some, None, Option, nat_lt}
+use Rattle.std.specs.Prelude.{ℕ, ◌+◌, ◌-◌, Bool, false, if◌then◌else◌, Some, None, Option, nat_lt}
 use Rattle.bits.specs.Lowest.{lowest}
+use Rattle.lanes.specs.Rates.{Layout, marker_period}
 use Rattle.lanes.specs.Markers.{passes}
 use Rattle.lanes.specs.declared.lock.Lock.{Lock}
 use Rattle.lanes.specs.declared.lock.Lock.TheVariants.{Searching, Waiting, Locked}
@@ -10,9 +11,9 @@ use Rattle.lanes.specs.declared.lock.Outcome.{Outcome}
 use Rattle.lanes.specs.declared.lock.Outcome.TheVariants.{Untested, Failed, Passed}
 
 -- for which lanes a tick's window passes; there is none before 120 bits are in
-abbrev pub tested : ℕ → (ℕ → ℕ → ℕ) → Option ℕ → ℕ → Bool
-tested lanes octet None = λ l. false
-tested lanes octet (Some window) = passes lanes octet window
+abbrev pub tested : Layout → Option ℕ → ℕ → Bool
+tested r None = λ l. false
+tested r (Some window) = passes r window
 
 abbrev pub seen : Option ℕ → Outcome
 seen None = Failed
@@ -20,7 +21,7 @@ seen (Some l) = Passed l
 
 -- the test of lane l, due where at most one tick is left
 abbrev pub due : (ℕ → Bool) → ℕ → ℕ → Outcome
-due test l left = cond (nat_lt 1 left) Untested (cond (test l) (Passed l) Failed)
+due test l left = if nat_lt 1 left then Untested else (if test l then Passed l else Failed)
 
 -- A searching position tests for every lane on each tick; the others for their own, when it is due.
 abbrev pub outcome : ℕ → (ℕ → Bool) → Lock → Outcome
@@ -39,7 +40,7 @@ abbrev pub moved : ℕ → Outcome → Lock → Lock
 moved period Untested lock = closer lock
 moved period Failed Searching = Searching
 moved period Failed (Waiting l left) = Searching
-moved period Failed (Locked l left failures) = cond (nat_lt failures 4) (Locked l period (failures + 1)) Searching
+moved period Failed (Locked l left failures) = if nat_lt failures 4 then Locked l period (failures + 1) else Searching
 moved period (Passed m) Searching = Waiting m period
 moved period (Passed m) (Waiting l left) = Locked l period 0
 moved period (Passed m) (Locked l left failures) = Locked l period 0
@@ -49,14 +50,14 @@ abbrev pub told : Outcome → Lock → Event
 told Untested lock = Quiet
 told Failed Searching = Quiet
 told Failed (Waiting l left) = Fails
-told Failed (Locked l left failures) = cond (nat_lt failures 4) Fails FifthFailure
+told Failed (Locked l left failures) = if nat_lt failures 4 then Fails else FifthFailure
 told (Passed m) Searching = Waits
 told (Passed m) (Waiting l left) = Locks
 told (Passed m) (Locked l left failures) = Quiet
 
 -- A tick, by the lanes for which its window passes.
-unfoldable pub next_lock : ℕ → ℕ → (ℕ → Bool) → Lock → Lock
-next_lock lanes period test lock = moved period (outcome lanes test lock) lock
+unfoldable pub next_lock : Layout → (ℕ → Bool) → Lock → Lock
+next_lock r test lock = moved (marker_period r) (outcome r.lanes test lock) lock
 
-unfoldable pub lock_event : ℕ → (ℕ → Bool) → Lock → Event
-lock_event lanes test lock = told (outcome lanes test lock) lock
+unfoldable pub lock_event : Layout → (ℕ → Bool) → Lock → Event
+lock_event r test lock = told (outcome r.lanes test lock) lock

@@ -5,8 +5,9 @@ use Rattle.std.proofs.lemmas.Bool.{ltb-true, lt-ltb, le-ltb}
 use Rattle.std.proofs.lemmas.Bool.Decides.{nat_tests}
 use Rattle.bits.specs.Bits.{table, nth}
 use Rattle.lanes.specs.Markers.{marker_at, nibble_of, wrong, own}
-use Rattle.lanes.specs.Letters.{lettered, octet_in, letters_eight, letters_sixteen}
-use Rattle.lanes.specs.Rates.{Form, Lawful, marker_period}
+use Rattle.lanes.specs.Letters.{lettered, octet_in, layout_of, letters_eight, letters_sixteen}
+use Rattle.lanes.specs.Rates.{marker_period}
+use Rattle.lanes.specs.Lawful.{Form, Lawful}
 use Rattle.bits.specs.Every.{every, every_two}
 use Rattle.bits.proofs.Every.{every_at, every_two_at}
 
@@ -14,13 +15,13 @@ in_order : (ls : List ℕ) → table 15 (nth (lettered ls)) ≡ lettered ls
 unfolding table
 in_order ls = refl
 
-pub marker_here : (t : List (List ℕ)) (lanes l : ℕ) → l < lanes → lettered (slice_index_or t l []) ≡ marker_at lanes (octet_in t) l
+pub marker_here : (t : List (List ℕ)) (pairs l : ℕ) → l < length t → lettered (slice_index_or t l []) ≡ marker_at (layout_of t pairs) l
 unfolding marker_at
-marker_here t lanes l h = rw (lt-ltb l lanes h) (sym (in_order (slice_index_or t l [])))
+marker_here t pairs l h = rw (lt-ltb l (length t) h) (sym (in_order (slice_index_or t l [])))
 
-pub marker_past : (t : List (List ℕ)) (lanes l : ℕ) → lanes ≤ l → replicate 15 0 ≡ marker_at lanes (octet_in t) l
+pub marker_past : (t : List (List ℕ)) (pairs l : ℕ) → length t ≤ l → replicate 15 0 ≡ marker_at (layout_of t pairs) l
 unfolding marker_at
-marker_past t lanes l h = rw (le-ltb l lanes h) refl
+marker_past t pairs l h = rw (le-ltb l (length t) h) refl
 
 abbrev small : List (List ℕ) → ℕ → Bool
 small t l = every (λ i. nat_lt (octet_in t l i) 256) 15
@@ -45,7 +46,7 @@ eight_of_twelve = refl
 
 -- The lanes of a table are lawful if its markers are made of octets, and are far apart.
 lawful : (t : List (List ℕ)) → (length t ≡ 8) ⊎ (length t ≡ 16) → every (small t) (length t) ≡ true → every_two (far t) (length t) ≡ true →
-    (pairs : ℕ) → 9600 ≤ marker_period (length t) pairs → marker_period (length t) pairs ≤ 2 ^ 31 → Lawful (length t) pairs (octet_in t)
+    (pairs : ℕ) → 9600 ≤ marker_period (layout_of t pairs) → marker_period (layout_of t pairs) ≤ 2 ^ 31 → Lawful (layout_of t pairs)
 lawful t width octets apart pairs long short = record {
   width = width;
   long = long;
@@ -68,8 +69,8 @@ far_sixteen : every_two (far letters_sixteen) 16 ≡ true
 unfolding wrong
 far_sixteen = refl
 
-pub lawful_eight : (pairs : ℕ) → 9600 ≤ marker_period 8 pairs → marker_period 8 pairs ≤ 2 ^ 31 → Lawful 8 pairs (octet_in letters_eight)
+pub lawful_eight : (pairs : ℕ) → 9600 ≤ marker_period (layout_of letters_eight pairs) → marker_period (layout_of letters_eight pairs) ≤ 2 ^ 31 → Lawful (layout_of letters_eight pairs)
 lawful_eight = lawful letters_eight (inl refl) small_eight far_eight
 
-pub lawful_sixteen : (pairs : ℕ) → 9600 ≤ marker_period 16 pairs → marker_period 16 pairs ≤ 2 ^ 31 → Lawful 16 pairs (octet_in letters_sixteen)
+pub lawful_sixteen : (pairs : ℕ) → 9600 ≤ marker_period (layout_of letters_sixteen pairs) → marker_period (layout_of letters_sixteen pairs) ≤ 2 ^ 31 → Lawful (layout_of letters_sixteen pairs)
 lawful_sixteen = lawful letters_sixteen (inr refl) small_sixteen far_sixteen

@@ -1,6 +1,6 @@
 // The letters of the alignment markers by lane, and the markers made of them.
-ghost use Rattle.std.specs.Prelude.{◌≡◌, length};
-ghost use Rattle.lanes.specs.Letters.{lettered, octet_in};
+ghost use Rattle.std.specs.Prelude.{◌≡◌, ℕ};
+ghost use Rattle.lanes.specs.Letters.{lettered, layout_of};
 ghost use Rattle.lanes.specs.Markers.{marker_at};
 
 pub(crate) const EIGHT: [[u8; 5]; 8] = [
@@ -44,7 +44,7 @@ fn lettered(letters: &[u8; 5]) -> [u8; 15]
 
 // The marker of a lane by the letters of all lanes; zeros past them.
 pub(crate) fn marker_of(letters: &[[u8; 5]], lane: usize) -> [u8; 15]
-    ensures { result ≡ marker_at (length letters.now) (octet_in letters.now) lane }
+    ensures { (pairs : ℕ) → result ≡ marker_at (layout_of letters.now pairs) lane }
 {
     letters.get(lane).map_or([0; 15], lettered)
 }

@@ -46,7 +46,7 @@ const MOST_FAILURES: u8 = 4;
 
 // A searching position tests for every lane on each tick; the others for their own, when it is due.
 fn test<R: Rate>(lock: Lock, window: Option<u128>) -> Outcome
-    ensures { result ≡ outcome R.LANES (tested R.LANES R.octet window) lock }
+    ensures { result ≡ outcome R.layout.lanes (tested R.layout window) lock }
 {
     match lock {
         Lock::Searching => window
@@ -124,9 +124,9 @@ fn turn(lock: &mut Lock, outcome: Outcome, period: usize) -> Event
 // One tick of a position. There is no window before 120 bits of the hunt are in.
 #[tactic(auto, using(crate::proofs::Ticks::rules_hold), unfolding(crate::specs::Locks::next_lock, crate::specs::Locks::lock_event))]
 pub fn step<R: Rate>(lock: &mut Lock, window: Option<u128>) -> Event
-    ensures state { lock.new ≡ next_lock R.LANES (marker_period R.LANES R.PAIRS) (tested R.LANES R.octet window) lock.old }
-    ensures event { result ≡ lock_event R.LANES (tested R.LANES R.octet window) lock.old }
-    ensures rules { LockRules R.LANES (marker_period R.LANES R.PAIRS) }
+    ensures state { lock.new ≡ next_lock R.layout (tested R.layout window) lock.old }
+    ensures event { result ≡ lock_event R.layout (tested R.layout window) lock.old }
+    ensures rules { LockRules R.layout }
 {
     let outcome = test::<R>(*lock, window);
     turn(lock, outcome, period::<R>())
