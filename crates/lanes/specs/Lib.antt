@@ -7,5 +7,4 @@ pub mod Locks
 pub mod LockRules
 pub mod Faults
 pub mod Pads
-pub mod HandCases
 pub mod Tables

@@ -8,9 +8,13 @@ pub record Layout : Type 0 where
   pub pairs : ℕ
   pub octet : ℕ → ℕ → ℕ
 
--- the bits of one pair on one lane; a pair of codewords has 10,880
+-- the bits of a pair of codewords
+abbrev pub pair_size : ℕ
+pair_size = 10880
+
+-- those on one lane
 abbrev pub pair_bits : ℕ → ℕ
-pair_bits lanes = 10880 / lanes
+pair_bits lanes = pair_size / lanes
 
 -- the ticks from one marker of a lane to the next
 abbrev pub marker_period : Layout → ℕ

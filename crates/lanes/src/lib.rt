@@ -12,4 +12,4 @@ pub use fault::{Cause, Fault, checked};
 pub use lock::{Event, Lock, step};
 pub use marker::{found_lane, marker_symbol, passes};
 pub use pad::Pad;
-pub use rate::{Rate, Rate200, Rate400, RateShort, lane_count, pair_count, period};
+pub use rate::{PAIR_BITS, Rate, Rate200, Rate400, RateShort, lane_count, pair_count, period};

@@ -47,7 +47,7 @@ pub fn pair_count<R: Rate>() -> usize
 }
 
 // The bits of a pair of codewords.
-const PAIR_BITS: usize = 10880;
+pub const PAIR_BITS: usize = 10880;
 
 // The ticks from one marker of a lane to the next.
 pub fn period<R: Rate>() -> usize
