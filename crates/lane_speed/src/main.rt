@@ -2,7 +2,8 @@
 // the picoseconds that a send and a tick took, best of several rounds.
 #![tactic(auto)]
 
-use lanes::{Event, Lock, Rate, Rate200, Rate400, step};
+use lanes::{Event, Lock, Rate, step};
+use rates::{Rate200, Rate400};
 use sender::Sender;
 use std::env;
 use std::time::Instant;

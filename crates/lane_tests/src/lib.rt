@@ -4,9 +4,9 @@
 #[cfg(test)]
 mod tests {
     use lanes::{
-        Cause, Event, Fault, Lock, Pad, Rate, Rate200, Rate400, RateShort, checked, found_lane,
-        passes, period, step,
+        Cause, Event, Fault, Lock, Pad, Rate, checked, found_lane, passes, period, step,
     };
+    use rates::{Rate200, Rate400, RateShort};
     use sender::{Refusal, Sender};
     use std::process::Abort;
     use std::test::Fail;

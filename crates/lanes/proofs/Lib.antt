@@ -5,3 +5,4 @@ pub mod Distance
 pub mod Lanes
 pub mod Ticks
 pub mod Padded
+pub mod Tables

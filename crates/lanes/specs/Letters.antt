@@ -1,8 +1,8 @@
 -- The letters a, b, u, v, w of each lane's marker, and the layouts of the three rates. Assumes nothing.
-use Rattle.std.specs.Prelude.{ℕ, List, [], ◌∷◌, length, slice_index_or}
+use Rattle.std.specs.Prelude.{◌≡◌, ℕ, List, [], ◌∷◌, length, slice_index_or}
 use Rattle.bits.specs.Bits.{nth}
 use Rattle.lanes.specs.Markers.{marker_of}
-use Rattle.lanes.specs.Rates.{Layout}
+use Rattle.lanes.specs.Rates.{Layout, marker_period}
 
 abbrev pub letters_eight : List (List ℕ)
 letters_eight =
@@ -55,3 +55,7 @@ layout_400 = layout_of letters_sixteen 4096
 -- for tests: short periods
 abbrev pub layout_short : Layout
 layout_short = layout_of letters_eight 16
+
+-- the ticks from one marker of a lane to the next at each
+abbrev pub ThreePeriods : Type 0
+ThreePeriods = (marker_period layout_200 ≡ 2785280) × (marker_period layout_400 ≡ 2785280) × (marker_period layout_short ≡ 21760)

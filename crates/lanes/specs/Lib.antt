@@ -7,4 +7,3 @@ pub mod Locks
 pub mod LockRules
 pub mod Faults
 pub mod Pads
-pub mod Tables

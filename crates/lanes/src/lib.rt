@@ -9,7 +9,8 @@ mod pad;
 mod rate;
 
 pub use fault::{Cause, Fault, checked};
+pub use letters::marker_of;
 pub use lock::{Event, Lock, step};
 pub use marker::{found_lane, marker_symbol, passes};
 pub use pad::Pad;
-pub use rate::{PAIR_BITS, Rate, Rate200, Rate400, RateShort, lane_count, pair_count, period};
+pub use rate::{PAIR_BITS, Rate, lane_count, pair_count, period};

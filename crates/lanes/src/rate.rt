@@ -1,13 +1,9 @@
-// What a rate fixes, and the three rates.
-ghost use Rattle.std.specs.Prelude.{◌≡◌, ℕ, refl};
-ghost use Rattle.lanes.specs.Letters.{layout_200, layout_400, layout_short};
+// What a rate fixes.
+ghost use Rattle.std.specs.Prelude.{◌≡◌, ℕ};
+ghost use Rattle.lanes.specs.Letters.{ThreePeriods};
 ghost use Rattle.lanes.specs.Markers.{marker_at};
 ghost use Rattle.lanes.specs.Rates.{Layout, marker_period};
 ghost use Rattle.lanes.specs.Lawful.{Lawful};
-ghost use Rattle.std.proofs.Common.{lit≤};
-ghost use Rattle.lanes.specs.Tables.{lawful_eight, lawful_sixteen};
-
-use crate::letters::{EIGHT, SIXTEEN, marker_of};
 
 pub trait Rate {
     const LANES: usize;
@@ -51,75 +47,8 @@ pub const PAIR_BITS: usize = 10880;
 
 // The ticks from one marker of a lane to the next.
 pub fn period<R: Rate>() -> usize
-    ensures { result ≡ marker_period R.layout }
+    ensures ticks { result ≡ marker_period R.layout }
+    ensures three { ThreePeriods }
 {
     pair_count::<R>() * (PAIR_BITS / lane_count::<R>())
-}
-
-pub struct Rate200;
-
-impl Rate for Rate200 {
-    const LANES: usize = 8;
-
-    const PAIRS: usize = 2048;
-
-    ghost LANES = { 8 };
-
-    ghost PAIRS = { 2048 };
-
-    ghost layout = { layout_200 };
-
-    ghost constants = { (refl, refl) };
-
-    ghost lawful = { lawful_eight _ (lit≤ tt) (lit≤ tt) };
-
-    fn marker(lane: usize) -> [u8; 15] {
-        marker_of(&EIGHT, lane)
-    }
-}
-
-pub struct Rate400;
-
-impl Rate for Rate400 {
-    const LANES: usize = 16;
-
-    const PAIRS: usize = 4096;
-
-    ghost LANES = { 16 };
-
-    ghost PAIRS = { 4096 };
-
-    ghost layout = { layout_400 };
-
-    ghost constants = { (refl, refl) };
-
-    ghost lawful = { lawful_sixteen _ (lit≤ tt) (lit≤ tt) };
-
-    fn marker(lane: usize) -> [u8; 15] {
-        marker_of(&SIXTEEN, lane)
-    }
-}
-
-// Short periods, for tests; the markers of 200. The pairs are no const parameter: the law does not hold for every number of
-// them.
-pub struct RateShort;
-
-impl Rate for RateShort {
-    const LANES: usize = 8;
-
-    const PAIRS: usize = 16;
-
-    ghost LANES = { 8 };
-
-    ghost PAIRS = { 16 };
-
-    ghost layout = { layout_short };
-
-    ghost constants = { (refl, refl) };
-
-    ghost lawful = { lawful_eight _ (lit≤ tt) (lit≤ tt) };
-
-    fn marker(lane: usize) -> [u8; 15] {
-        marker_of(&EIGHT, lane)
-    }
 }

@@ -3,7 +3,7 @@ use Rattle.std.specs.Prelude.{Option, Some, None, MatchOption, unwrap_or}
 use Rattle.std.specs.Option.{option_map}
 use Rattle.lanes.specs.Letters.{lettered, layout_of}
 use Rattle.lanes.specs.Markers.{marker_at}
-use Rattle.lanes.specs.Tables.{marker_here, marker_past}
+use Rattle.lanes.proofs.Tables.{marker_here, marker_past}
 use Rattle.lanes.proofs.letters.marker_of.Goals as goal
 
 -- the marker of what stands at l, if anything does
