@@ -1,14 +1,15 @@
 -- The lock machine over many ticks.
-use Rattle.std.proofs.Common.{◌≡◌, ℕ, zero, suc, ◌+◌, ◌-◌, ◌*◌, ◌<◌, ◌≤◌, Bool, true, false, None, sym, refl, ap, ◌∙◌, add-zero, add-suc, mul-zero, add-one, arith}
+use Rattle.std.proofs.Common.{◌≡◌, ℕ, zero, suc, ◌+◌, ◌-◌, ◌*◌, ◌<◌, ◌≤◌, Bool, true, false, Some, None, Option, if◌then◌else◌, nat_lt, sym, refl, ap, ◌∙◌, add-zero, add-suc, mul-zero, add-one, arith}
 use Rattle.std.proofs.lemmas.Bool.{lt-ltb}
 use Rattle.std.proofs.lemmas.Bool.Decides.{nat_tests}
 use Rattle.bits.specs.Lowest.{lowest}
 use Rattle.lanes.specs.Rates.{Layout, marker_period}
-use Rattle.lanes.specs.Locks.{next_lock, lock_event}
+use Rattle.lanes.specs.Locks.{searched, ticked, next_lock, lock_event}
 use Rattle.lanes.specs.LockRules.{after, event_after, LockRules}
 use Rattle.lanes.specs.declared.lock.Lock.{Lock}
 use Rattle.lanes.specs.declared.lock.Lock.TheVariants.{Searching, Waiting, Locked}
-use Rattle.lanes.specs.declared.lock.Event.TheVariants.{FifthFailure}
+use Rattle.lanes.specs.declared.lock.Event.{Event}
+use Rattle.lanes.specs.declared.lock.Event.TheVariants.{Quiet, Locks, Fails, FifthFailure}
 
 -- ticks of which the first a are over
 abbrev pub later : ℕ → (ℕ → ℕ → Bool) → ℕ → ℕ → Bool
@@ -28,21 +29,21 @@ module _ (r : Layout) where
   joined test lock a (suc n) = rw add-suc (rw (joined test lock a n) refl)
 
   pub waiting : (test : ℕ → ℕ → Bool) (l left n : ℕ) → n < left → after r test (Waiting l left) n ≡ Waiting l (left - n)
-  unfolding after next_lock
+  unfolding after ticked
   waiting test l left zero h = grind arith
   waiting test l left (suc n) h = grind (arith, nat_tests, waiting test l left n)
 
   pub holding : (test : ℕ → ℕ → Bool) (l left f n : ℕ) → n < left → after r test (Locked l left f) n ≡ Locked l (left - n) f
-  unfolding after next_lock
+  unfolding after ticked
   holding test l left f zero h = grind arith
   holding test l left f (suc n) h = grind (arith, nat_tests, holding test l left f n)
 
   searching : (test : ℕ → ℕ → Bool) (n : ℕ) → ((t : ℕ) → t < n → lowest (test (t + 1)) r.lanes ≡ None) → after r test Searching n ≡ Searching
-  unfolding after next_lock
+  unfolding after ticked
   searching test zero e = refl
   searching test (suc n) e =
       let t : lowest (test (suc n)) r.lanes ≡ None = ap (λ (i : ℕ). lowest (test i) r.lanes) (sym (add-one n)) ∙ e n (omega arith) in
-      rw (searching test n (λ t b. e t (omega arith)), t) refl
+      rw (searching test n (λ t b. e t (omega arith))) (ap (λ (o : Option ℕ). (searched (marker_period r) o).0) t)
 
 -- the period p, by itself a number above 0
 module _ (r : Layout) (p : ℕ) (long : 0 < p) where
@@ -63,21 +64,38 @@ module _ (r : Layout) (long : 0 < marker_period r) where
   abbrev period : ℕ
   period = marker_period r
 
-  locks : (test : ℕ → ℕ → Bool) (l : ℕ) → test period l ≡ true → after r test (Waiting l period) period ≡ Locked l period 0
-  unfolding next_lock
-  locks test l e = last_tick r period long test (Waiting l period) ∙ rw (last_wait r period long test l, e) refl
+  -- what the test of a waiting position's lane makes of it, and of a locked one's
+  abbrev waited : ℕ → Bool → Lock × Event
+  waited l b = if b then (Locked l period 0, Locks) else (Searching, Fails)
 
-  resumes : (test : ℕ → ℕ → Bool) (l : ℕ) → test period l ≡ false → after r test (Waiting l period) period ≡ Searching
-  unfolding next_lock
-  resumes test l e = last_tick r period long test (Waiting l period) ∙ rw (last_wait r period long test l, e) refl
+  abbrev failed : ℕ → ℕ → Bool → Lock × Event
+  failed l f few = if few then (Locked l period (f + 1), Fails) else (Searching, FifthFailure)
 
-  clears : (test : ℕ → ℕ → Bool) (l f : ℕ) → test period l ≡ true → after r test (Locked l period f) period ≡ Locked l period 0
-  unfolding next_lock
-  clears test l f e = last_tick r period long test (Locked l period f) ∙ rw (last_hold r period long test l f, e) refl
+  abbrev held : ℕ → ℕ → Bool → Lock × Event
+  held l f b = if b then (Locked l period 0, Quiet) else failed l f (nat_lt f 4)
+
+  wait_due : (test : ℕ → Bool) (l : ℕ) → ticked r test (Waiting l 1) ≡ waited l (test l)
+  unfolding ticked
+  wait_due test l = refl
+
+  hold_due : (test : ℕ → Bool) (l f : ℕ) → ticked r test (Locked l 1 f) ≡ held l f (test l)
+  unfolding ticked
+  hold_due test l f = refl
+
+  wait_over : (test : ℕ → ℕ → Bool) (l : ℕ) (b : Bool) → test period l ≡ b → after r test (Waiting l period) period ≡ (waited l b).0
+  wait_over test l b e =
+      last_tick r period long test (Waiting l period)
+      ∙ ap (next_lock r (test period)) (last_wait r period long test l)
+      ∙ ap (λ (x : Lock × Event). x.0) (wait_due (test period) l) ∙ ap (λ (c : Bool). (waited l c).0) e
+
+  hold_over : (test : ℕ → ℕ → Bool) (l f : ℕ) (b : Bool) → test period l ≡ b → after r test (Locked l period f) period ≡ (held l f b).0
+  hold_over test l f b e =
+      last_tick r period long test (Locked l period f)
+      ∙ ap (next_lock r (test period)) (last_hold r period long test l f)
+      ∙ ap (λ (x : Lock × Event). x.0) (hold_due (test period) l f) ∙ ap (λ (c : Bool). (held l f c).0) e
 
   fails : (test : ℕ → ℕ → Bool) (l f : ℕ) → f < 4 → test period l ≡ false → after r test (Locked l period f) period ≡ Locked l period (f + 1)
-  unfolding next_lock
-  fails test l f h e = last_tick r period long test (Locked l period f) ∙ rw (last_hold r period long test l f, e, lt-ltb f 4 h) refl
+  fails test l f h e = hold_over test l f false e ∙ ap (λ (few : Bool). (failed l f few).0) (lt-ltb f 4 h)
 
   counting : (test : ℕ → ℕ → Bool) (l k : ℕ) → k ≤ 4 → ((j : ℕ) → j < k → test (period * (j + 1)) l ≡ false) → after r test (Locked l period 0) (period * k) ≡ Locked l period k
   unfolding after
@@ -91,7 +109,7 @@ module _ (r : Layout) (long : 0 < marker_period r) where
       ∙ fails (later (period * k) test) l k (omega arith) t ∙ ap (Locked l period) (add-one k)
 
   fifth_told : (test : ℕ → ℕ → Bool) (l n : ℕ) → ((j : ℕ) → j < 5 → test (period * (j + 1)) l ≡ false) → n + 1 ≡ period * 5 → event_after r test (Locked l period 0) n ≡ FifthFailure
-  unfolding event_after lock_event
+  unfolding event_after
   fifth_told test l n e h =
       let s : n ≡ period * 4 + (period - 1) = omega arith in
       let t : test (n + 1) l ≡ false = ap (λ (t : ℕ). test t l) h ∙ e 4 (omega arith) in
@@ -100,16 +118,19 @@ module _ (r : Layout) (long : 0 < marker_period r) where
       ∙ joined r test (Locked l period 0) (period * 4) (period - 1)
       ∙ ap (λ (s : Lock). after r (later (period * 4) test) s (period - 1)) (counting test l 4 (omega arith) (λ j b. e j (omega arith)))
       ∙ last_hold r period long (later (period * 4) test) l 4 in
-      rw (here, t) refl
+      ap (lock_event r (test (n + 1))) here ∙ ap (λ (x : Lock × Event). x.1) (hold_due (test (n + 1)) l 4) ∙ ap (λ (c : Bool). (held l 4 c).1) t
+
+  waits : (test : ℕ → ℕ → Bool) (l : ℕ) → lowest (test 1) r.lanes ≡ Some l → after r test Searching 1 ≡ Waiting l period
+  unfolding after ticked
+  waits test l e = ap (λ (o : Option ℕ). (searched period o).0) e
 
   pub rules_hold : LockRules r
-  unfolding after next_lock
   rules_hold = record {
     searches = searching r;
-    waits = λ test l e. rw e refl;
-    locks = locks;
-    resumes = resumes;
-    clears = clears;
+    waits = waits;
+    locks = λ test l. wait_over test l true;
+    resumes = λ test l. wait_over test l false;
+    clears = λ test l f. hold_over test l f true;
     counts = counting;
     fifth = fifth_told;
   }
