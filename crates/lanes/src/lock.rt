@@ -50,7 +50,8 @@ fn passes_in<R: Rate>(window: Option<u128>, lane: usize) -> bool
     window.is_some_and(|bits| passes::<R>(bits, lane))
 }
 
-// One tick of a position. There is no window before 120 bits of the hunt are in.
+// One tick of a position. Its window is the last 120 bits that came to it. Before so many of a hunt are in there is none, and
+// nothing passes: to say so, by `None`, is the caller's duty, since a position does not count its bits.
 #[tactic(auto, using(crate::proofs::Ticks::rules_hold), unfolding(crate::specs::Locks::ticked))]
 pub fn step<R: Rate>(lock: &mut Lock, window: Option<u128>) -> Event
     ensures state { lock.new ≡ next_lock R.layout (tested R.layout window) lock.old }
