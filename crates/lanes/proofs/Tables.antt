@@ -5,17 +5,17 @@ use Rattle.std.proofs.lemmas.Bool.{ltb-true, leb-true, eqb-true, and_parts, case
 use Rattle.std.proofs.lemmas.Bool.Decides.{nat_tests}
 use Rattle.bits.specs.Bits.{table, nth}
 use Rattle.lanes.specs.Markers.{marker_at, nibble_of, wrong, own}
-use Rattle.lanes.specs.Letters.{lettered, octet_in, layout_of, letters_sixteen}
+use Rattle.lanes.specs.Letters.{marker_from, octet_in, layout_of, letters_sixteen}
 use Rattle.lanes.specs.Rates.{marker_period}
 use Rattle.lanes.specs.Lawful.{Form, Lawful}
 use Rattle.bits.specs.Every.{every, every_two}
 use Rattle.bits.proofs.Every.{every_at, every_two_at}
 
-in_order : (ls : List ℕ) → table 15 (nth (lettered ls)) ≡ lettered ls
+in_order : (ls : List ℕ) → table 15 (nth (marker_from ls)) ≡ marker_from ls
 unfolding table
 in_order ls = refl
 
-pub marker_here : (t : List (List ℕ)) (pairs l : ℕ) → l < length t → lettered (slice_index_or t l []) ≡ marker_at (layout_of t pairs) l
+pub marker_here : (t : List (List ℕ)) (pairs l : ℕ) → l < length t → marker_from (slice_index_or t l []) ≡ marker_at (layout_of t pairs) l
 unfolding marker_at
 marker_here t pairs l h = rw (lt-ltb l (length t) h) (sym (in_order (slice_index_or t l [])))
 

@@ -2,11 +2,11 @@
 use Rattle.std.specs.Prelude.{◌≡◌, ℕ, ◌^◌, ◌<◌, ◌≤◌, ◌⊎◌, ◌≢◌}
 use Rattle.bits.specs.Bits.{table}
 use Rattle.lanes.specs.Rates.{Layout, marker_period}
-use Rattle.lanes.specs.Markers.{marker_of, nibble_of, wrong, own}
+use Rattle.lanes.specs.Markers.{marker_with, nibble_of, wrong, own}
 
 -- 15 octets have the form of a marker
 pub record Form (octet : ℕ → ℕ) : Type 0 where
-  pub letters : table 15 octet ≡ marker_of (octet 3) (octet 7) (octet 8) (octet 9) (octet 10)
+  pub letters : table 15 octet ≡ marker_with (octet 3) (octet 7) (octet 8) (octet 9) (octet 10)
   pub octets : (i : ℕ) → i < 15 → octet i < 256
 
 pub record Lawful (r : Layout) : Type 0 where

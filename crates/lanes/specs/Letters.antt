@@ -1,7 +1,7 @@
 -- The letters a, b, u, v, w of each lane's marker, and the layouts of the three rates. Assumes nothing.
 use Rattle.std.specs.Prelude.{◌≡◌, ℕ, List, [], ◌∷◌, length, slice_index_or}
 use Rattle.bits.specs.Bits.{nth}
-use Rattle.lanes.specs.Markers.{marker_of}
+use Rattle.lanes.specs.Markers.{marker_with}
 use Rattle.lanes.specs.Rates.{Layout, marker_period}
 
 abbrev pub letters_eight : List (List ℕ)
@@ -35,12 +35,12 @@ letters_sixteen =
     (0xB4 ∷ 0x56 ∷ 0xA6 ∷ 0xBA ∷ 0x79 ∷ []) ∷ []
 
 -- the marker of five letters
-abbrev pub lettered : List ℕ → List ℕ
-lettered ls = marker_of (nth ls 0) (nth ls 1) (nth ls 2) (nth ls 3) (nth ls 4)
+abbrev pub marker_from : List ℕ → List ℕ
+marker_from ls = marker_with (nth ls 0) (nth ls 1) (nth ls 2) (nth ls 3) (nth ls 4)
 
 -- octet i of the marker of lane l
 abbrev pub octet_in : List (List ℕ) → ℕ → ℕ → ℕ
-octet_in t l i = nth (lettered (slice_index_or t l [])) i
+octet_in t l i = nth (marker_from (slice_index_or t l [])) i
 
 -- as many lanes as the table has letters for
 abbrev pub layout_of : List (List ℕ) → ℕ → Layout

@@ -5,8 +5,8 @@ use Rattle.bits.specs.Lowest.{lowest}
 use Rattle.lanes.specs.Rates.{Layout}
 
 -- the marker that has these letters
-abbrev pub marker_of : ℕ → ℕ → ℕ → ℕ → ℕ → List ℕ
-marker_of a b u v w =
+abbrev pub marker_with : ℕ → ℕ → ℕ → ℕ → ℕ → List ℕ
+marker_with a b u v w =
     0x9A ∷ 0x4A ∷ 0x26 ∷ a ∷ 0x65 ∷ 0xB5 ∷ 0xD9 ∷ b ∷ u ∷ v ∷ w ∷ (255 - b) ∷ (255 - u) ∷ (255 - v) ∷ (255 - w) ∷ []
 
 -- the octets of the marker of lane l, zeros past the lanes

@@ -4,6 +4,7 @@ ghost use Rattle.bits.specs.Lowest.{lowest};
 ghost use Rattle.lanes.specs.Locks.{tested, next_lock, lock_event};
 ghost use Rattle.lanes.specs.LockRules.{LockRules};
 
+use crate::fault::{Cause, Fault};
 use crate::marker::{found_lane, passes};
 use crate::rate::{Rate, period};
 
@@ -33,6 +34,24 @@ pub enum Event {
     FifthFailure,
 }
 
+impl Event {
+    ghost use Rattle.lanes.specs.Faults.{or_fault};
+
+    // The event, or the fault of five failed markers in a row.
+    pub fn or_fault(self, position: usize, ticks: u64) -> Result<Event, Fault>
+        ensures { result ≡ or_fault self position ticks }
+    {
+        match self {
+            Event::FifthFailure => Err(Fault {
+                cause: Cause::FiveFailedMarkers,
+                position,
+                ticks,
+            }),
+            other => Ok(other),
+        }
+    }
+}
+
 // A locked position that fails once more after so many failures in a row is lost.
 const MOST_FAILURES: u8 = 4;
 
@@ -50,61 +69,63 @@ fn passes_in<R: Rate>(window: Option<u128>, lane: usize) -> bool
     window.is_some_and(|bits| passes::<R>(bits, lane))
 }
 
-// One tick of a position. Its window is the last 120 bits that came to it. Before so many of a hunt are in there is none, and
-// nothing passes: to say so, by `None`, is the caller's duty, since a position does not count its bits.
-#[tactic(auto, using(crate::proofs::Ticks::rules_hold), unfolding(crate::specs::Locks::ticked))]
-pub fn step<R: Rate>(lock: &mut Lock, window: Option<u128>) -> Event
-    ensures state { lock.new ≡ next_lock R.layout (tested R.layout window) lock.old }
-    ensures event { result ≡ lock_event R.layout (tested R.layout window) lock.old }
-    ensures rules { LockRules R.layout }
-{
-    match lock {
-        Lock::Searching => {
-            if let Some(lane) = lane_in::<R>(window) {
-                *lock = Lock::Waiting {
-                    lane,
-                    left: period::<R>(),
-                };
-                Event::Waits
-            } else {
-                Event::Quiet
+impl Lock {
+    // One tick of a position. Its window is the last 120 bits that came to it. Before so many of a hunt are in there is
+    // none, and nothing passes: to say so, by `None`, is the caller's duty, since a position does not count its bits.
+    #[tactic(auto, using(crate::proofs::Ticks::rules_hold), unfolding(crate::specs::Locks::ticked))]
+    pub fn step<R: Rate>(&mut self, window: Option<u128>) -> Event
+        ensures state { self.new ≡ next_lock R.layout (tested R.layout window) self.old }
+        ensures event { result ≡ lock_event R.layout (tested R.layout window) self.old }
+        ensures rules { LockRules R.layout }
+    {
+        match self {
+            Lock::Searching => {
+                if let Some(lane) = lane_in::<R>(window) {
+                    *self = Lock::Waiting {
+                        lane,
+                        left: period::<R>(),
+                    };
+                    Event::Waits
+                } else {
+                    Event::Quiet
+                }
             }
-        }
-        Lock::Waiting { lane, left } => {
-            if *left > 1 {
-                *left -= 1;
-                Event::Quiet
-            } else if passes_in::<R>(window, *lane) {
-                *lock = Lock::Locked {
-                    lane: *lane,
-                    left: period::<R>(),
-                    failures: 0,
-                };
-                Event::Locks
-            } else {
-                *lock = Lock::Searching;
-                Event::Fails
+            Lock::Waiting { lane, left } => {
+                if *left > 1 {
+                    *left -= 1;
+                    Event::Quiet
+                } else if passes_in::<R>(window, *lane) {
+                    *self = Lock::Locked {
+                        lane: *lane,
+                        left: period::<R>(),
+                        failures: 0,
+                    };
+                    Event::Locks
+                } else {
+                    *self = Lock::Searching;
+                    Event::Fails
+                }
             }
-        }
-        Lock::Locked {
-            lane,
-            left,
-            failures,
-        } => {
-            if *left > 1 {
-                *left -= 1;
-                Event::Quiet
-            } else if passes_in::<R>(window, *lane) {
-                *left = period::<R>();
-                *failures = 0;
-                Event::Quiet
-            } else if *failures < MOST_FAILURES {
-                *left = period::<R>();
-                *failures += 1;
-                Event::Fails
-            } else {
-                *lock = Lock::Searching;
-                Event::FifthFailure
+            Lock::Locked {
+                lane,
+                left,
+                failures,
+            } => {
+                if *left > 1 {
+                    *left -= 1;
+                    Event::Quiet
+                } else if passes_in::<R>(window, *lane) {
+                    *left = period::<R>();
+                    *failures = 0;
+                    Event::Quiet
+                } else if *failures < MOST_FAILURES {
+                    *left = period::<R>();
+                    *failures += 1;
+                    Event::Fails
+                } else {
+                    *self = Lock::Searching;
+                    Event::FifthFailure
+                }
             }
         }
     }

@@ -55,7 +55,7 @@ impl Rate for Rate10200 {
 #[cfg(test)]
 mod tests {
     use super::Rate10200;
-    use lanes::{Event, Lock, Rate, found_lane, lane_count, passes, period, step};
+    use lanes::{Event, Lock, Rate, found_lane, lane_count, passes, period};
     use std::process::Abort;
     use std::test::Fail;
 
@@ -75,7 +75,7 @@ mod tests {
         rt: &impl Abort,
     ) -> Result<(), Fail> {
         for _ in 0..ticks {
-            assert_eq!(rt; step::<R>(lock, Some(window)), Event::Quiet);
+            assert_eq!(rt; lock.step::<R>(Some(window)), Event::Quiet);
         }
         Ok(())
     }
@@ -86,13 +86,13 @@ mod tests {
         let left = period::<R>();
         let mut lock = Lock::Searching;
         stay::<R>(&mut lock, 3, 0, rt)?;
-        assert_eq!(rt; step::<R>(&mut lock, Some(marker)), Event::Waits);
+        assert_eq!(rt; lock.step::<R>(Some(marker)), Event::Waits);
         assert_eq!(rt; lock, Lock::Waiting { lane, left });
         stay::<R>(&mut lock, left.saturating_sub(1), marker, rt)?;
-        assert_eq!(rt; step::<R>(&mut lock, Some(marker)), Event::Locks);
+        assert_eq!(rt; lock.step::<R>(Some(marker)), Event::Locks);
         for failures in 1..5u8 {
             stay::<R>(&mut lock, left.saturating_sub(1), 0, rt)?;
-            assert_eq!(rt; step::<R>(&mut lock, Some(0)), Event::Fails);
+            assert_eq!(rt; lock.step::<R>(Some(0)), Event::Fails);
             assert_eq!(rt;
                 lock,
                 Lock::Locked {
@@ -103,7 +103,7 @@ mod tests {
             );
         }
         stay::<R>(&mut lock, left.saturating_sub(1), marker, rt)?;
-        assert_eq!(rt; step::<R>(&mut lock, Some(0)), Event::FifthFailure);
+        assert_eq!(rt; lock.step::<R>(Some(0)), Event::FifthFailure);
         assert_eq!(rt; lock, Lock::Searching);
         Ok(())
     }
