@@ -4,16 +4,25 @@ use Rattle.std.proofs.lemmas.Bool.{lt-ltb, le-ltb}
 use Rattle.std.proofs.lemmas.Bool.Decides.{nat_tests}
 use Rattle.bits.specs.Lowest.{lowest}
 use Rattle.lanes.specs.Rates.{Layout, marker_period}
-use Rattle.lanes.specs.Locks.{searched, ticked, next_lock, lock_event}
+use Rattle.lanes.specs.Locks.{seen, turned, ticked, next_lock, lock_event}
 use Rattle.lanes.specs.LockRules.{after, event_after, Quietly, Leads, Locking, Losing, LockRules}
 use Rattle.lanes.specs.declared.lock.Lock.{Lock}
 use Rattle.lanes.specs.declared.lock.Lock.TheVariants.{Searching, Waiting, Locked}
+use Rattle.lanes.specs.declared.lock.Outcome.{Outcome}
+use Rattle.lanes.specs.declared.lock.Outcome.TheVariants.{Failed, Passed}
 use Rattle.lanes.specs.declared.lock.Event.{Event}
 use Rattle.lanes.specs.declared.lock.Event.TheVariants.{Quiet, Waits, Locks, Fails, FifthFailure}
 
 -- ticks of which the first a are over
 abbrev pub later : ℕ → (ℕ → ℕ → Bool) → ℕ → ℕ → Bool
 later a test t = test (a + t)
+
+abbrev searched : ℕ → Option ℕ → Lock × Event
+searched period o = turned period (seen o) Searching
+
+-- a test that is due
+abbrev tried : ℕ → Bool → Outcome
+tried l b = if b then Passed l else Failed
 
 module _ (r : Layout) where
   pub joined : (test : ℕ → ℕ → Bool) (lock : Lock) (a n : ℕ) → after r test lock (a + n) ≡ after r (later a test) (after r test lock a) n
@@ -65,13 +74,21 @@ module _ (r : Layout) where
   abbrev held : ℕ → ℕ → Bool → Lock × Event
   held l f b = if b then (Locked l (marker_period r) 0, Quiet) else failed l f (nat_lt f 4)
 
+  waited_is : (l left : ℕ) (b : Bool) → turned (marker_period r) (tried l b) (Waiting l left) ≡ waited l b
+  waited_is l left true = refl
+  waited_is l left false = refl
+
+  held_is : (l left f : ℕ) (b : Bool) → turned (marker_period r) (tried l b) (Locked l left f) ≡ held l f b
+  held_is l left f true = refl
+  held_is l left f false = refl
+
   wait_due : (test : ℕ → Bool) (l left : ℕ) → left ≤ 1 → ticked r test (Waiting l left) ≡ waited l (test l)
   unfolding ticked
-  wait_due test l left h = rw (le-ltb 1 left h) refl
+  wait_due test l left h = rw (le-ltb 1 left h) (waited_is l left (test l))
 
   hold_due : (test : ℕ → Bool) (l left f : ℕ) → left ≤ 1 → ticked r test (Locked l left f) ≡ held l f (test l)
   unfolding ticked
-  hold_due test l left f h = rw (le-ltb 1 left h) refl
+  hold_due test l left f h = rw (le-ltb 1 left h) (held_is l left f (test l))
 
   waiting : (test : ℕ → ℕ → Bool) (l left n : ℕ) → n < left → after r test (Waiting l left) n ≡ Waiting l (left - n)
   unfolding after ticked

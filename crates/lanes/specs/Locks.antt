@@ -5,6 +5,8 @@ use Rattle.lanes.specs.Rates.{Layout, marker_period}
 use Rattle.lanes.specs.Markers.{passes}
 use Rattle.lanes.specs.declared.lock.Lock.{Lock}
 use Rattle.lanes.specs.declared.lock.Lock.TheVariants.{Searching, Waiting, Locked}
+use Rattle.lanes.specs.declared.lock.Outcome.{Outcome}
+use Rattle.lanes.specs.declared.lock.Outcome.TheVariants.{Untested, Failed, Passed}
 use Rattle.lanes.specs.declared.lock.Event.{Event}
 use Rattle.lanes.specs.declared.lock.Event.TheVariants.{Quiet, Waits, Locks, Fails, FifthFailure}
 
@@ -13,24 +15,34 @@ abbrev pub tested : Layout → Option ℕ → ℕ → Bool
 tested r None = λ l. false
 tested r (Some window) = passes r window
 
--- A search that finds a lane waits for its next marker.
-abbrev pub searched : ℕ → Option ℕ → Lock × Event
-searched period None = (Searching, Quiet)
-searched period (Some l) = (Waiting l period, Waits)
+-- The test of a position on a tick; `test l` says that its window passes for lane l. A searching position tests for every
+-- lane on each tick; the others for their own, where at most one tick is left.
+abbrev pub seen : Option ℕ → Outcome
+seen None = Failed
+seen (Some l) = Passed l
 
--- What a tick makes of a position, and tells. `test l` says that its window passes for lane l. A searching position tests
--- for every lane on each tick; the others for their own, where at most one tick is left.
+abbrev pub due : (ℕ → Bool) → ℕ → ℕ → Outcome
+due test l left = if nat_lt 1 left then Untested else (if test l then Passed l else Failed)
+
+abbrev pub outcome : Layout → (ℕ → Bool) → Lock → Outcome
+outcome r test Searching = seen (lowest test r.lanes)
+outcome r test (Waiting l left) = due test l left
+outcome r test (Locked l left failures) = due test l left
+
+-- What the outcome makes of a position, and what is told. The next test of a lane is a period away.
+abbrev pub turned : ℕ → Outcome → Lock → Lock × Event
+turned period Untested Searching = (Searching, Quiet)
+turned period Failed Searching = (Searching, Quiet)
+turned period (Passed l) Searching = (Waiting l period, Waits)
+turned period Untested (Waiting l left) = (Waiting l (left - 1), Quiet)
+turned period Failed (Waiting l left) = (Searching, Fails)
+turned period (Passed m) (Waiting l left) = (Locked l period 0, Locks)
+turned period Untested (Locked l left failures) = (Locked l (left - 1) failures, Quiet)
+turned period Failed (Locked l left failures) = if nat_lt failures 4 then (Locked l period (failures + 1), Fails) else (Searching, FifthFailure)
+turned period (Passed m) (Locked l left failures) = (Locked l period 0, Quiet)
+
 unfoldable pub ticked : Layout → (ℕ → Bool) → Lock → Lock × Event
-ticked r test Searching = searched (marker_period r) (lowest test r.lanes)
-ticked r test (Waiting l left) =
-    if nat_lt 1 left then (Waiting l (left - 1), Quiet)
-    else (if test l then (Locked l (marker_period r) 0, Locks)
-    else (Searching, Fails))
-ticked r test (Locked l left failures) =
-    if nat_lt 1 left then (Locked l (left - 1) failures, Quiet)
-    else (if test l then (Locked l (marker_period r) 0, Quiet)
-    else (if nat_lt failures 4 then (Locked l (marker_period r) (failures + 1), Fails)
-    else (Searching, FifthFailure)))
+ticked r test lock = turned (marker_period r) (outcome r test lock) lock
 
 abbrev pub next_lock : Layout → (ℕ → Bool) → Lock → Lock
 next_lock r test lock = (ticked r test lock).0

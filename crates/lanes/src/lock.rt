@@ -1,7 +1,7 @@
 // The lock machine of one position.
 ghost use Rattle.std.specs.Prelude.{◌≡◌};
 ghost use Rattle.bits.specs.Lowest.{lowest};
-ghost use Rattle.lanes.specs.Locks.{tested, next_lock, lock_event};
+ghost use Rattle.lanes.specs.Locks.{tested, outcome, turned, next_lock, lock_event};
 ghost use Rattle.lanes.specs.LockRules.{LockRules};
 
 use crate::fault::{Cause, Fault};
@@ -69,7 +69,83 @@ fn passes_in<R: Rate>(window: Option<u128>, lane: usize) -> bool
     window.is_some_and(|bits| passes::<R>(bits, lane))
 }
 
+// A tick's test of a position.
+#[derive(Clone, Copy)]
+enum Outcome {
+    // Its test is not due.
+    Untested,
+    Failed,
+    // It passed for this lane.
+    Passed(usize),
+}
+
 impl Lock {
+    // A searching position tests for every lane on each tick; the others for their own, when it is due.
+    fn test<R: Rate>(&self, window: Option<u128>) -> Outcome
+        ensures { result ≡ outcome R.layout (tested R.layout window) self.now }
+    {
+        match *self {
+            Lock::Searching => lane_in::<R>(window).map_or(Outcome::Failed, Outcome::Passed),
+            Lock::Waiting { lane, left } | Lock::Locked { lane, left, .. } => {
+                if left > 1 {
+                    Outcome::Untested
+                } else if passes_in::<R>(window, lane) {
+                    Outcome::Passed(lane)
+                } else {
+                    Outcome::Failed
+                }
+            }
+        }
+    }
+
+    // Moves by the outcome of a tick's test, and tells what happened.
+    fn turn(&mut self, outcome: Outcome, period: usize) -> Event
+        ensures state { self.new ≡ (turned period outcome self.old).0 }
+        ensures event { result ≡ (turned period outcome self.old).1 }
+    {
+        match (&mut *self, outcome) {
+            (Lock::Searching, Outcome::Passed(lane)) => {
+                *self = Lock::Waiting { lane, left: period };
+                Event::Waits
+            }
+            (Lock::Searching, _) => Event::Quiet,
+            (Lock::Waiting { left, .. }, Outcome::Untested) => {
+                *left = left.saturating_sub(1);
+                Event::Quiet
+            }
+            (Lock::Waiting { .. }, Outcome::Failed) => {
+                *self = Lock::Searching;
+                Event::Fails
+            }
+            (Lock::Waiting { lane, .. }, Outcome::Passed(_)) => {
+                *self = Lock::Locked {
+                    lane: *lane,
+                    left: period,
+                    failures: 0,
+                };
+                Event::Locks
+            }
+            (Lock::Locked { left, .. }, Outcome::Untested) => {
+                *left = left.saturating_sub(1);
+                Event::Quiet
+            }
+            (Lock::Locked { left, failures, .. }, Outcome::Passed(_)) => {
+                *left = period;
+                *failures = 0;
+                Event::Quiet
+            }
+            (Lock::Locked { left, failures, .. }, Outcome::Failed) if *failures < MOST_FAILURES => {
+                *left = period;
+                *failures += 1;
+                Event::Fails
+            }
+            (Lock::Locked { .. }, Outcome::Failed) => {
+                *self = Lock::Searching;
+                Event::FifthFailure
+            }
+        }
+    }
+
     // One tick of a position. Its window is the last 120 bits that came to it. Before so many of a hunt are in there is
     // none, and nothing passes: to say so, by `None`, is the caller's duty, since a position does not count its bits.
     #[tactic(auto, using(crate::proofs::Ticks::rules_hold), unfolding(crate::specs::Locks::ticked))]
@@ -78,55 +154,7 @@ impl Lock {
         ensures event { result ≡ lock_event R.layout (tested R.layout window) self.old }
         ensures rules { LockRules R.layout }
     {
-        match self {
-            Lock::Searching => {
-                if let Some(lane) = lane_in::<R>(window) {
-                    *self = Lock::Waiting {
-                        lane,
-                        left: period::<R>(),
-                    };
-                    Event::Waits
-                } else {
-                    Event::Quiet
-                }
-            }
-            Lock::Waiting { lane, left } => {
-                if *left > 1 {
-                    *left -= 1;
-                    Event::Quiet
-                } else if passes_in::<R>(window, *lane) {
-                    *self = Lock::Locked {
-                        lane: *lane,
-                        left: period::<R>(),
-                        failures: 0,
-                    };
-                    Event::Locks
-                } else {
-                    *self = Lock::Searching;
-                    Event::Fails
-                }
-            }
-            Lock::Locked {
-                lane,
-                left,
-                failures,
-            } => {
-                if *left > 1 {
-                    *left -= 1;
-                    Event::Quiet
-                } else if passes_in::<R>(window, *lane) {
-                    *left = period::<R>();
-                    *failures = 0;
-                    Event::Quiet
-                } else if *failures < MOST_FAILURES {
-                    *left = period::<R>();
-                    *failures += 1;
-                    Event::Fails
-                } else {
-                    *self = Lock::Searching;
-                    Event::FifthFailure
-                }
-            }
-        }
+        let outcome = self.test::<R>(window);
+        self.turn(outcome, period::<R>())
     }
 }
