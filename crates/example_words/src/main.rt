@@ -5,7 +5,7 @@
 #![tactic(auto)]
 
 use anyhow::{Context, bail, ensure};
-use lanes::{Rate200, Rate400};
+use rates::{Rate200, Rate400};
 use pair::Pair;
 use std::io::{BufRead, BufReader};
 

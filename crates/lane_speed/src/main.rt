@@ -2,7 +2,8 @@
 // the picoseconds that a send and a tick took, best of several rounds.
 #![tactic(auto)]
 
-use lanes::{Event, Lock, Rate, Rate200, Rate400, step};
+use lanes::{Event, Lock, Rate};
+use rates::{Rate200, Rate400};
 use sender::Sender;
 use std::env;
 use std::time::Instant;
@@ -56,7 +57,7 @@ fn marker() -> u128 {
 
 // Whether a searching position begins to wait on that window.
 fn waits(window: u128) -> bool {
-    step::<Rate200>(&mut Lock::Searching, Some(window)) == Event::Waits
+    Lock::Searching.step::<Rate200>(Some(window)) == Event::Waits
 }
 
 // Ticks of a searching position whose window is a marker at first, and how often it began to wait.

@@ -4,9 +4,9 @@
 #[cfg(test)]
 mod tests {
     use lanes::{
-        Cause, Event, Fault, Lock, Pad, Rate, Rate200, Rate400, RateShort, checked, found_lane,
-        passes, period, step,
+        Cause, Event, Fault, Lock, Pad, Rate, found_lane, passes, period,
     };
+    use rates::{Rate200, Rate400, RateShort};
     use sender::{Refusal, Sender};
     use std::process::Abort;
     use std::test::Fail;
@@ -140,22 +140,22 @@ mod tests {
     fn a_position_waits_locks_and_is_lost(rt: HostRuntime) -> Result<(), Fail> {
         let marker = window(&RateShort::marker(5));
         let mut lock = Lock::Searching;
-        assert_eq!(rt; step::<RateShort>(&mut lock, None), Event::Quiet);
-        assert_eq!(rt; step::<RateShort>(&mut lock, Some(marker)), Event::Waits);
+        assert_eq!(rt; lock.step::<RateShort>(None), Event::Quiet);
+        assert_eq!(rt; lock.step::<RateShort>(Some(marker)), Event::Waits);
         for _ in 1..21760 {
-            assert_eq!(rt; step::<RateShort>(&mut lock, Some(marker)), Event::Quiet);
+            assert_eq!(rt; lock.step::<RateShort>(Some(marker)), Event::Quiet);
         }
-        assert_eq!(rt; step::<RateShort>(&mut lock, Some(marker)), Event::Locks);
+        assert_eq!(rt; lock.step::<RateShort>(Some(marker)), Event::Locks);
         for failure in 1..=5 {
             for _ in 1..21760 {
-                assert_eq!(rt; step::<RateShort>(&mut lock, Some(0)), Event::Quiet);
+                assert_eq!(rt; lock.step::<RateShort>(Some(0)), Event::Quiet);
             }
             let event = if failure < 5 {
                 Event::Fails
             } else {
                 Event::FifthFailure
             };
-            assert_eq!(rt; step::<RateShort>(&mut lock, Some(0)), event);
+            assert_eq!(rt; lock.step::<RateShort>(Some(0)), event);
         }
         assert_eq!(rt; lock, Lock::Searching);
         let fault = Fault {
@@ -163,7 +163,7 @@ mod tests {
             position: 2,
             ticks: 130680,
         };
-        assert_eq!(rt; checked(Event::FifthFailure, 2, 130680), Err(fault));
+        assert_eq!(rt; Event::FifthFailure.or_fault(2, 130680), Err(fault));
         assert_eq!(rt; (fault.cause.layer(), fault.cause.number()), (1, 1));
         Ok(())
     }
@@ -172,7 +172,7 @@ mod tests {
     fn a_wrong_lane_ends_the_wait(rt: HostRuntime) -> Result<(), Fail> {
         let mut lock = Lock::Waiting { lane: 5, left: 1 };
         let other = window(&RateShort::marker(4));
-        assert_eq!(rt; step::<RateShort>(&mut lock, Some(other)), Event::Fails);
+        assert_eq!(rt; lock.step::<RateShort>(Some(other)), Event::Fails);
         assert_eq!(rt; lock, Lock::Searching);
         Ok(())
     }

@@ -5,4 +5,4 @@ pub mod Distance
 pub mod Lanes
 pub mod Ticks
 pub mod Padded
-pub mod ByHand
+pub mod Tables

@@ -6,7 +6,8 @@ use Rattle.bits.specs.Bits.{field, number, octet_bits, table, nth}
 use Rattle.bits.proofs.Fields.{length-field, field_join, take-field, drop-field, number-field}
 use Rattle.bits.proofs.Tables.{length-table, nth-table}
 use Rattle.lanes.specs.Markers.{symbol_in, marker_at, marker_bits, octets_number}
-use Rattle.lanes.specs.Rates.{Form, Lawful}
+use Rattle.lanes.specs.Rates.{Layout}
+use Rattle.lanes.specs.Lawful.{Form, Lawful}
 
 -- the bits of octets are those of their number
 pub octets-field : (os : List ℕ) → ((i : ℕ) → nth os i < 256) → octet_bits os ≡ field (octets_number (nth os) (length os)) 0 (8 * length os)
@@ -35,33 +36,33 @@ unfolding symbol_in number
 symbol_past bs i l = ap (λ (xs : List ℕ). number (take 10 xs)) (drop_all (10 * i) bs l)
 
 -- the octets of every lane's marker, and the zeros past the lanes
-module _ (lanes : ℕ) (octet : ℕ → ℕ → ℕ) (form : (l : ℕ) → l < lanes → Form (octet l)) where
-  pub length_marker : (l : ℕ) → length (marker_at lanes octet l) ≡ 15
+module _ (r : Layout) (form : (l : ℕ) → l < r.lanes → Form (r.octet l)) where
+  pub length_marker : (l : ℕ) → length (marker_at r l) ≡ 15
   unfolding marker_at
   length_marker l = grind (arith, common_steps, length-table)
 
-  octet_small : (l i : ℕ) → l < lanes → nth (table 15 (octet l)) i < 256
+  octet_small : (l i : ℕ) → l < r.lanes → nth (table 15 (r.octet l)) i < 256
   octet_small l i h = let f = form l h in grind (arith, common_steps, length-table, nth-table, f.octets)
 
   zero-small : (n i : ℕ) → nth (replicate n 0) i < 256
   zero-small n i = grind (arith, common_steps)
 
-  marker_small : (l i : ℕ) → nth (marker_at lanes octet l) i < 256
+  marker_small : (l i : ℕ) → nth (marker_at r l) i < 256
   unfolding marker_at
   marker_small l i = grind (arith, common_steps, octet_small, zero-small)
 
-  pub marker_field : (l : ℕ) → marker_bits lanes octet l ≡ field (octets_number (nth (marker_at lanes octet l)) 15) 0 120
+  pub marker_field : (l : ℕ) → marker_bits r l ≡ field (octets_number (nth (marker_at r l)) 15) 0 120
   unfolding marker_bits
   marker_field l =
-      octets-field (marker_at lanes octet l) (marker_small l)
-      ∙ ap (λ (n : ℕ). field (octets_number (nth (marker_at lanes octet l)) n) 0 (8 * n)) (length_marker l)
+      octets-field (marker_at r l) (marker_small l)
+      ∙ ap (λ (n : ℕ). field (octets_number (nth (marker_at r l)) n) 0 (8 * n)) (length_marker l)
 
-  pub length_bits : (l : ℕ) → length (marker_bits lanes octet l) ≡ 120
-  length_bits l = ap length (marker_field l) ∙ length-field (octets_number (nth (marker_at lanes octet l)) 15) 0 120
+  pub length_bits : (l : ℕ) → length (marker_bits r l) ≡ 120
+  length_bits l = ap length (marker_field l) ∙ length-field (octets_number (nth (marker_at r l)) 15) 0 120
 
-module _ {lanes pairs : ℕ} {octet : ℕ → ℕ → ℕ} (lawful : Lawful lanes pairs octet) where
-  pub symbol_here : (l row : ℕ) → row < 12 → symbol_in (marker_bits lanes octet l) row ≡ octets_number (nth (marker_at lanes octet l)) 15 / 2 ^ (10 * row) % 1024
-  symbol_here l row h = ap (λ (bs : List ℕ). symbol_in bs row) (marker_field lanes octet lawful.form l) ∙ symbol_of_field _ 120 row (omega arith)
+module _ {r : Layout} (lawful : Lawful r) where
+  pub symbol_here : (l row : ℕ) → row < 12 → symbol_in (marker_bits r l) row ≡ octets_number (nth (marker_at r l)) 15 / 2 ^ (10 * row) % 1024
+  symbol_here l row h = ap (λ (bs : List ℕ). symbol_in bs row) (marker_field r lawful.form l) ∙ symbol_of_field _ 120 row (omega arith)
 
-  pub symbol_beyond : (l row : ℕ) → 12 ≤ row → symbol_in (marker_bits lanes octet l) row ≡ 0
-  symbol_beyond l row h = let n = length_bits lanes octet lawful.form l in symbol_past _ _ (omega arith)
+  pub symbol_beyond : (l row : ℕ) → 12 ≤ row → symbol_in (marker_bits r l) row ≡ 0
+  symbol_beyond l row h = let n = length_bits r lawful.form l in symbol_past _ _ (omega arith)

@@ -5,7 +5,8 @@ use Rattle.std.proofs.lemmas.Bool.{lt-ltb, le-leb, eq-eqb}
 use Rattle.bits.specs.Bits.{table, nth}
 use Rattle.bits.proofs.Tables.{nth-table}
 use Rattle.lanes.specs.Markers.{marker_at, octets_number, nibble, nibble_of, wrong, shared, own, near}
-use Rattle.lanes.specs.Rates.{Form}
+use Rattle.lanes.specs.Rates.{Layout}
+use Rattle.lanes.specs.Lawful.{Form}
 
 two_further : (x j : ℕ) → nibble x (suc (suc j)) ≡ nibble (x / 256) j
 two_further x j = grind (arith, shr-shr x 8 (4 * j))
@@ -49,18 +50,18 @@ wrong-same v w x e (o ∷ os) i =
 half_below : (j : ℕ) → j < 30 → j / 2 < 15
 half_below j h = omega arith
 
-module _ (lanes l : ℕ) (octet : ℕ → ℕ → ℕ) (inside : l < lanes) (form : Form (octet l)) where
-  octet_at : (i : ℕ) → i < 15 → nth (marker_at lanes octet l) i ≡ octet l i
+module _ (r : Layout) (l : ℕ) (inside : l < r.lanes) (form : Form (r.octet l)) where
+  octet_at : (i : ℕ) → i < 15 → nth (marker_at r l) i ≡ r.octet l i
   unfolding marker_at
-  octet_at i h = rw (lt-ltb l lanes inside) (nth-table 15 (octet l) i h)
+  octet_at i h = rw (lt-ltb l r.lanes inside) (nth-table 15 (r.octet l) i h)
 
-  small : (i : ℕ) → i < 15 → nth (marker_at lanes octet l) i < 256
+  small : (i : ℕ) → i < 15 → nth (marker_at r l) i < 256
   small i h = rw (octet_at i h) (form.octets i h)
 
   -- the number of the marker has the marker's nibbles
-  pub own_by_number : (w : ℕ) → wrong (nibble w) (nibble (octets_number (nth (marker_at lanes octet l)) 15)) own ≡ wrong (nibble w) (nibble_of (octet l)) own
-  own_by_number w = wrong-same (nibble w) (nibble (octets_number (nth (marker_at lanes octet l)) 15)) (nibble_of (octet l))
-      (λ j h. nibble-number 15 (nth (marker_at lanes octet l)) small j h ∙ ap (λ (y : ℕ). nibble y (j % 2)) (octet_at (j / 2) (half_below j h)))
+  pub own_by_number : (w : ℕ) → wrong (nibble w) (nibble (octets_number (nth (marker_at r l)) 15)) own ≡ wrong (nibble w) (nibble_of (r.octet l)) own
+  own_by_number w = wrong-same (nibble w) (nibble (octets_number (nth (marker_at r l)) 15)) (nibble_of (r.octet l))
+      (λ j h. nibble-number 15 (nth (marker_at r l)) small j h ∙ ap (λ (y : ℕ). nibble y (j % 2)) (octet_at (j / 2) (half_below j h)))
       own (search rules)
 
 -- what all markers share

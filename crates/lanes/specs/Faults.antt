@@ -16,9 +16,10 @@ number_of FiveFailedMarkers = 1
 abbrev pub five_failed : ℕ → ℕ → Fault
 five_failed position ticks = record { cause = FiveFailedMarkers; position = position; ticks = ticks }
 
-abbrev pub checked : Event → ℕ → ℕ → Result Event Fault
-checked Quiet position ticks = Ok Quiet
-checked Waits position ticks = Ok Waits
-checked Locks position ticks = Ok Locks
-checked Fails position ticks = Ok Fails
-checked FifthFailure position ticks = Err (five_failed position ticks)
+-- an event, or the fault that it is
+abbrev pub or_fault : Event → ℕ → ℕ → Result Event Fault
+or_fault Quiet position ticks = Ok Quiet
+or_fault Waits position ticks = Ok Waits
+or_fault Locks position ticks = Ok Locks
+or_fault Fails position ticks = Ok Fails
+or_fault FifthFailure position ticks = Err (five_failed position ticks)

@@ -1,7 +1,8 @@
--- The letters a, b, u, v, w of each lane's marker. Assumes nothing.
-use Rattle.std.specs.Prelude.{ℕ, List, [], ◌∷◌, slice_index_or}
+-- The letters a, b, u, v, w of each lane's marker, and the layouts of the three rates. Assumes nothing.
+use Rattle.std.specs.Prelude.{◌≡◌, ℕ, List, [], ◌∷◌, length, slice_index_or}
 use Rattle.bits.specs.Bits.{nth}
-use Rattle.lanes.specs.Markers.{marker_of}
+use Rattle.lanes.specs.Markers.{marker_with}
+use Rattle.lanes.specs.Rates.{Layout, marker_period}
 
 abbrev pub letters_eight : List (List ℕ)
 letters_eight =
@@ -34,9 +35,27 @@ letters_sixteen =
     (0xB4 ∷ 0x56 ∷ 0xA6 ∷ 0xBA ∷ 0x79 ∷ []) ∷ []
 
 -- the marker of five letters
-abbrev pub lettered : List ℕ → List ℕ
-lettered ls = marker_of (nth ls 0) (nth ls 1) (nth ls 2) (nth ls 3) (nth ls 4)
+abbrev pub marker_from : List ℕ → List ℕ
+marker_from ls = marker_with (nth ls 0) (nth ls 1) (nth ls 2) (nth ls 3) (nth ls 4)
 
 -- octet i of the marker of lane l
 abbrev pub octet_in : List (List ℕ) → ℕ → ℕ → ℕ
-octet_in t l i = nth (lettered (slice_index_or t l [])) i
+octet_in t l i = nth (marker_from (slice_index_or t l [])) i
+
+-- as many lanes as the table has letters for
+abbrev pub layout_of : List (List ℕ) → ℕ → Layout
+layout_of t pairs = record { lanes = length t; pairs = pairs; octet = octet_in t }
+
+abbrev pub layout_200 : Layout
+layout_200 = layout_of letters_eight 2048
+
+abbrev pub layout_400 : Layout
+layout_400 = layout_of letters_sixteen 4096
+
+-- for tests: short periods
+abbrev pub layout_short : Layout
+layout_short = layout_of letters_eight 16
+
+-- the ticks from one marker of a lane to the next at each
+abbrev pub ThreePeriods : Type 0
+ThreePeriods = (marker_period layout_200 ≡ 2785280) × (marker_period layout_400 ≡ 2785280) × (marker_period layout_short ≡ 21760)

@@ -1,10 +1,9 @@
 pub mod Markers
 pub mod Letters
 pub mod Rates
+pub mod Lawful
 pub mod Folds
 pub mod Locks
 pub mod LockRules
 pub mod Faults
 pub mod Pads
-pub mod HandCases
-pub mod Tables

@@ -1,62 +1,51 @@
 -- The lock machine of one position. Assumes nothing.
-use Rattle.std.specs.Prelude.{ℕ, ◌+◌, ◌-◌, Bool, false, cond, Some, None, Option, nat_lt}
+use Rattle.std.specs.Prelude.{ℕ, ◌+◌, ◌-◌, Bool, false, if◌then◌else◌, Some, None, Option, nat_lt}
 use Rattle.bits.specs.Lowest.{lowest}
+use Rattle.lanes.specs.Rates.{Layout, marker_period}
 use Rattle.lanes.specs.Markers.{passes}
 use Rattle.lanes.specs.declared.lock.Lock.{Lock}
 use Rattle.lanes.specs.declared.lock.Lock.TheVariants.{Searching, Waiting, Locked}
-use Rattle.lanes.specs.declared.lock.Event.{Event}
-use Rattle.lanes.specs.declared.lock.Event.TheVariants.{Quiet, Waits, Locks, Fails, FifthFailure}
 use Rattle.lanes.specs.declared.lock.Outcome.{Outcome}
 use Rattle.lanes.specs.declared.lock.Outcome.TheVariants.{Untested, Failed, Passed}
+use Rattle.lanes.specs.declared.lock.Event.{Event}
+use Rattle.lanes.specs.declared.lock.Event.TheVariants.{Quiet, Waits, Locks, Fails, FifthFailure}
 
--- for which lanes a tick's window passes; there is none before 120 bits are in
-abbrev pub tested : ℕ → (ℕ → ℕ → ℕ) → Option ℕ → ℕ → Bool
-tested lanes octet None = λ l. false
-tested lanes octet (Some window) = passes lanes octet window
+-- for which lanes a tick's window passes; for none where there is no window
+abbrev pub tested : Layout → Option ℕ → ℕ → Bool
+tested r None = λ l. false
+tested r (Some window) = passes r window
 
+-- The test of a position on a tick; `test l` says that its window passes for lane l. A searching position tests for every
+-- lane on each tick; the others for their own, where at most one tick is left.
 abbrev pub seen : Option ℕ → Outcome
 seen None = Failed
 seen (Some l) = Passed l
 
--- the test of lane l, due where at most one tick is left
 abbrev pub due : (ℕ → Bool) → ℕ → ℕ → Outcome
-due test l left = cond (nat_lt 1 left) Untested (cond (test l) (Passed l) Failed)
+due test l left = if nat_lt 1 left then Untested else (if test l then Passed l else Failed)
 
--- A searching position tests for every lane on each tick; the others for their own, when it is due.
-abbrev pub outcome : ℕ → (ℕ → Bool) → Lock → Outcome
-outcome lanes test Searching = seen (lowest test lanes)
-outcome lanes test (Waiting l left) = due test l left
-outcome lanes test (Locked l left failures) = due test l left
+abbrev pub outcome : Layout → (ℕ → Bool) → Lock → Outcome
+outcome r test Searching = seen (lowest test r.lanes)
+outcome r test (Waiting l left) = due test l left
+outcome r test (Locked l left failures) = due test l left
 
--- one tick closer to the next test
-abbrev pub closer : Lock → Lock
-closer Searching = Searching
-closer (Waiting l left) = Waiting l (left - 1)
-closer (Locked l left failures) = Locked l (left - 1) failures
+-- What the outcome makes of a position, and what is told. The next test of a lane is a period away.
+abbrev pub turned : ℕ → Outcome → Lock → Lock × Event
+turned period Untested Searching = (Searching, Quiet)
+turned period Failed Searching = (Searching, Quiet)
+turned period (Passed l) Searching = (Waiting l period, Waits)
+turned period Untested (Waiting l left) = (Waiting l (left - 1), Quiet)
+turned period Failed (Waiting l left) = (Searching, Fails)
+turned period (Passed m) (Waiting l left) = (Locked l period 0, Locks)
+turned period Untested (Locked l left failures) = (Locked l (left - 1) failures, Quiet)
+turned period Failed (Locked l left failures) = if nat_lt failures 4 then (Locked l period (failures + 1), Fails) else (Searching, FifthFailure)
+turned period (Passed m) (Locked l left failures) = (Locked l period 0, Quiet)
 
--- The state that a tick's outcome leads to; a lane's next test is `period` ticks away.
-abbrev pub moved : ℕ → Outcome → Lock → Lock
-moved period Untested lock = closer lock
-moved period Failed Searching = Searching
-moved period Failed (Waiting l left) = Searching
-moved period Failed (Locked l left failures) = cond (nat_lt failures 4) (Locked l period (failures + 1)) Searching
-moved period (Passed m) Searching = Waiting m period
-moved period (Passed m) (Waiting l left) = Locked l period 0
-moved period (Passed m) (Locked l left failures) = Locked l period 0
+unfoldable pub ticked : Layout → (ℕ → Bool) → Lock → Lock × Event
+ticked r test lock = turned (marker_period r) (outcome r test lock) lock
 
--- what it tells
-abbrev pub told : Outcome → Lock → Event
-told Untested lock = Quiet
-told Failed Searching = Quiet
-told Failed (Waiting l left) = Fails
-told Failed (Locked l left failures) = cond (nat_lt failures 4) Fails FifthFailure
-told (Passed m) Searching = Waits
-told (Passed m) (Waiting l left) = Locks
-told (Passed m) (Locked l left failures) = Quiet
+abbrev pub next_lock : Layout → (ℕ → Bool) → Lock → Lock
+next_lock r test lock = (ticked r test lock).0
 
--- A tick, by the lanes for which its window passes.
-unfoldable pub next_lock : ℕ → ℕ → (ℕ → Bool) → Lock → Lock
-next_lock lanes period test lock = moved period (outcome lanes test lock) lock
-
-unfoldable pub lock_event : ℕ → (ℕ → Bool) → Lock → Event
-lock_event lanes test lock = told (outcome lanes test lock) lock
+abbrev pub lock_event : Layout → (ℕ → Bool) → Lock → Event
+lock_event r test lock = (ticked r test lock).1

@@ -1,24 +1,25 @@
 -- Alignment markers, and the test of a window for them. Assumes nothing.
-use Rattle.std.specs.Prelude.{◌≡◌, ℕ, zero, suc, ◌+◌, ◌-◌, ◌*◌, ◌/◌, ◌%◌, ◌^◌, ◌<◌, Bool, true, cond, ◌&&◌, List, [], ◌∷◌, take, drop, replicate, Some, Option, ◌==◌, nat_le, nat_lt}
+use Rattle.std.specs.Prelude.{◌≡◌, ℕ, zero, suc, ◌+◌, ◌-◌, ◌*◌, ◌/◌, ◌%◌, ◌^◌, ◌<◌, Bool, true, if◌then◌else◌, ◌&&◌, List, [], ◌∷◌, take, drop, replicate, Some, Option, ◌==◌, nat_le, nat_lt}
 use Rattle.bits.specs.Bits.{table, number, octet_bits}
 use Rattle.bits.specs.Lowest.{lowest}
+use Rattle.lanes.specs.Rates.{Layout}
 
 -- the marker that has these letters
-abbrev pub marker_of : ℕ → ℕ → ℕ → ℕ → ℕ → List ℕ
-marker_of a b u v w =
+abbrev pub marker_with : ℕ → ℕ → ℕ → ℕ → ℕ → List ℕ
+marker_with a b u v w =
     0x9A ∷ 0x4A ∷ 0x26 ∷ a ∷ 0x65 ∷ 0xB5 ∷ 0xD9 ∷ b ∷ u ∷ v ∷ w ∷ (255 - b) ∷ (255 - u) ∷ (255 - v) ∷ (255 - w) ∷ []
 
 -- the octets of the marker of lane l, zeros past the lanes
-unfoldable pub marker_at : ℕ → (ℕ → ℕ → ℕ) → ℕ → List ℕ
-marker_at lanes octet l = cond (nat_lt l lanes) (table 15 (octet l)) (replicate 15 0)
+unfoldable pub marker_at : Layout → ℕ → List ℕ
+marker_at r l = if nat_lt l r.lanes then table 15 (r.octet l) else replicate 15 0
 
 -- symbol i of some bits: ten of them, the first lowest
 unfoldable pub symbol_in : List ℕ → ℕ → ℕ
 symbol_in bs i = number (take 10 (drop (10 * i) bs))
 
 -- the 120 bits of the marker of lane l, in the order sent
-unfoldable pub marker_bits : ℕ → (ℕ → ℕ → ℕ) → ℕ → List ℕ
-marker_bits lanes octet l = octet_bits (marker_at lanes octet l)
+unfoldable pub marker_bits : Layout → ℕ → List ℕ
+marker_bits r l = octet_bits (marker_at r l)
 
 -- the number whose octets, lowest first, are f 0, f 1 and so on, n of them
 unfoldable pub octets_number : (ℕ → ℕ) → ℕ → ℕ
@@ -33,7 +34,7 @@ abbrev pub nibble_of : (ℕ → ℕ) → ℕ → ℕ
 nibble_of octet j = nibble (octet (j / 2)) (j % 2)
 
 abbrev pub unequal : ℕ → ℕ → ℕ
-unequal a b = cond (a == b) 0 1
+unequal a b = if a == b then 0 else 1
 
 -- how many nibbles differ in these octets
 unfoldable pub wrong : (ℕ → ℕ) → (ℕ → ℕ) → List ℕ → ℕ
@@ -53,17 +54,17 @@ unfoldable pub near : ℕ → (ℕ → ℕ) → List ℕ → Bool
 near window marker part = nat_le (wrong (nibble window) (nibble_of marker) part) 3
 
 -- It passes for a lane if it is near to the lane's marker in both parts.
-unfoldable pub passes : ℕ → (ℕ → ℕ → ℕ) → ℕ → ℕ → Bool
-passes lanes octet window l = nat_lt l lanes && (near window (octet l) shared && near window (octet l) own)
+unfoldable pub passes : Layout → ℕ → ℕ → Bool
+passes r window l = nat_lt l r.lanes && (near window (r.octet l) shared && near window (r.octet l) own)
 
 -- the lowest lane for which it passes
-abbrev pub found : ℕ → (ℕ → ℕ → ℕ) → ℕ → Option ℕ
-found lanes octet window = lowest (passes lanes octet window) lanes
+abbrev pub found : Layout → ℕ → Option ℕ
+found r window = lowest (passes r window) r.lanes
 
--- and no other: r is the lane of every pass
-abbrev pub Only : ℕ → (ℕ → ℕ → ℕ) → ℕ → Option ℕ → Type 0
-Only lanes octet window r = (l : ℕ) → passes lanes octet window l ≡ true → r ≡ Some l
+-- and no other: o is the lane of every pass
+abbrev pub Only : Layout → ℕ → Option ℕ → Type 0
+Only r window o = (l : ℕ) → passes r window l ≡ true → o ≡ Some l
 
 -- a marker that came as it was sent is found
-abbrev pub FindsSent : ℕ → (ℕ → ℕ → ℕ) → ℕ → Option ℕ → Type 0
-FindsSent lanes octet window r = (l : ℕ) → l < lanes → window ≡ octets_number (octet l) 15 → r ≡ Some l
+abbrev pub FindsSent : Layout → ℕ → Option ℕ → Type 0
+FindsSent r window o = (l : ℕ) → l < r.lanes → window ≡ octets_number (r.octet l) 15 → o ≡ Some l

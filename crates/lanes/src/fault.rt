@@ -1,8 +1,6 @@
 // Faults: what was lost, where and when.
 ghost use Rattle.std.specs.Prelude.{◌≡◌};
-ghost use Rattle.lanes.specs.Faults.{layer_of, number_of, checked};
-
-use crate::lock::Event;
+ghost use Rattle.lanes.specs.Faults.{layer_of, number_of};
 
 // What was lost, or set back.
 #[derive(Clone, Copy, PartialEq, Eq, Debug)]
@@ -38,18 +36,4 @@ pub struct Fault {
     pub cause: Cause,
     pub position: usize,
     pub ticks: u64,
-}
-
-// The event, or the fault of five failed markers in a row.
-pub fn checked(event: Event, position: usize, ticks: u64) -> Result<Event, Fault>
-    ensures { result ≡ checked event position ticks }
-{
-    match event {
-        Event::FifthFailure => Err(Fault {
-            cause: Cause::FiveFailedMarkers,
-            position,
-            ticks,
-        }),
-        other => Ok(other),
-    }
 }

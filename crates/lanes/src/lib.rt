@@ -8,8 +8,9 @@ mod marker;
 mod pad;
 mod rate;
 
-pub use fault::{Cause, Fault, checked};
-pub use lock::{Event, Lock, step};
+pub use fault::{Cause, Fault};
+pub use letters::marker_of;
+pub use lock::{Event, Lock};
 pub use marker::{found_lane, marker_symbol, passes};
 pub use pad::Pad;
-pub use rate::{Rate, Rate200, Rate400, RateShort, period};
+pub use rate::{PAIR_BITS, Rate, lane_count, pair_count, period};

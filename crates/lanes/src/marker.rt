@@ -4,7 +4,7 @@ ghost use Rattle.bits.specs.Bits.{nth};
 ghost use Rattle.lanes.specs.Folds.{folded, octets_of, lowest_bits};
 ghost use Rattle.lanes.specs.Markers.{marker_bits, symbol_in, octets_number, nibble, wrong, passes, found, Only, FindsSent};
 
-use crate::rate::Rate;
+use crate::rate::{Rate, lane_count};
 
 // The octets that all markers share, or those by which a lane is told.
 #[derive(Clone, Copy)]
@@ -55,7 +55,7 @@ const MARKER_ROWS: usize = 12;
 // Symbol `row` of a lane's marker: ten bits, the first lowest. It is 0 past the marker, and past the lanes.
 #[tactic(auto, using(crate::proofs::MarkerSymbols::symbol_here, crate::proofs::MarkerSymbols::symbol_beyond))]
 pub fn marker_symbol<R: Rate>(lane: usize, row: usize) -> u16
-    ensures { result ≡ symbol_in (marker_bits R.LANES R.octet lane) row }
+    ensures { result ≡ symbol_in (marker_bits R.layout lane) row }
 {
     if row >= MARKER_ROWS {
         return 0;
@@ -74,18 +74,18 @@ fn is_near(window: u128, marker: u128, part: Part) -> bool
 // The window passes for a lane; for none past the lanes.
 #[tactic(auto, using(crate::proofs::Lanes::passes_here, crate::proofs::Lanes::passes_past))]
 pub fn passes<R: Rate>(window: u128, lane: usize) -> bool
-    ensures { result ≡ passes R.LANES R.octet window lane }
+    ensures { result ≡ passes R.layout window lane }
 {
-    lane < R::LANES
+    lane < lane_count::<R>()
         && is_near(window, SHARED_OCTETS, Part::Shared)
         && is_near(window, number(R::marker(lane)), Part::Own)
 }
 
 // The lane for which the window passes. It passes for at most one.
 pub fn found_lane<R: Rate>(window: u128) -> Option<usize>
-    ensures lane { result ≡ found R.LANES R.octet window }
-    ensures only { Only R.LANES R.octet window result }
-    ensures sent { FindsSent R.LANES R.octet window result }
+    ensures lane { result ≡ found R.layout window }
+    ensures only { Only R.layout window result }
+    ensures sent { FindsSent R.layout window result }
 {
-    (0..R::LANES).find(|lane| passes::<R>(window, *lane))
+    (0..lane_count::<R>()).find(|lane| passes::<R>(window, *lane))
 }

@@ -4,8 +4,8 @@ ghost use Rattle.bits.specs.Bits.{table, nth};
 
 use blocks::Refusal;
 
-// The last nine pad bits, the newest lowest.
-#[derive(Clone, Copy, Debug)]
+// The last nine pad bits, the newest lowest. No `Copy`: a copy would go on from its own place, and put out bits again.
+#[derive(Drop)]
 pub struct Pad {
     memory: u16,
     ghost small: { memory < 512 },
@@ -13,13 +13,10 @@ pub struct Pad {
 
 impl Pad {
     ghost use Rattle.lanes.specs.Pads.{pad_before, pad_bit, pad_memory, PadStarted};
-    ghost use Rattle.lanes.specs.HandCases.{HandChecked};
 
     // From a start value of 1 to 511: its bit k - 1 is the pad bit k before the first.
-    #[tactic(auto, using(crate::proofs::ByHand::hand_checked))]
     pub fn new(start: u16) -> Result<Pad, Refusal>
-        ensures started { PadStarted start result }
-        ensures hand { HandChecked }
+        ensures { PadStarted start result }
     {
         if (1..=511).contains(&start) {
             Ok(Pad { memory: start })

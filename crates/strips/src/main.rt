@@ -4,7 +4,8 @@
 use anyhow::{Context, bail, ensure};
 use arguments::{Arguments, RateName};
 use lane_file::LaneFile;
-use lanes::{Rate, Rate200, Rate400, RateShort};
+use lanes::Rate;
+use rates::{Rate200, Rate400, RateShort};
 use sender::{Refusal, Sender};
 use std::fs::File;
 use std::io::{BufReader, Read};

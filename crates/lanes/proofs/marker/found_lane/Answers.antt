@@ -7,9 +7,9 @@ use Rattle.lanes.proofs.marker.found_lane.Goals as goal
 
 pub returns : goal.returns
 returns g c =
-    let test : ℕ → Bool = passes g.R.Rate.LANES g.R.Rate.octet c.args.window in
+    let test : ℕ → Bool = passes g.R.Rate.layout c.args.window in
     let first = first_from_Range _ _ _ _ (λ k. test k ≡ true) (λ k. test k ≡ false) c.find.ensures.ran (λ x q k. search rules) (λ x q k. search rules) in
-    let e : c.find.result ≡ found g.R.Rate.LANES g.R.Rate.octet c.args.window = lowest_first test c.LANES.result _ first ∙ ap (lowest test) c.LANES.ensures in
+    let e : c.find.result ≡ found g.R.Rate.layout c.args.window = lowest_first test c.lane_count.result _ first ∙ ap (lowest test) c.lane_count.ensures in
     record {
       lane = e;
       only = λ l p. e ∙ the_lane g.met.R.Rate.lawful c.args.window l p;
