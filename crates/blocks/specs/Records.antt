@@ -25,17 +25,26 @@ unfoldable pub look : ℕ → List ℕ → Result (Option (ℕ × Item)) Refusal
 look n [] = Ok None
 look n (k ∷ xs) = if known k then (if nat_le (size_of k) (length xs) then Ok (Some (n, item_of k (take (size_of k) xs))) else Err Length) else Err (Kind n)
 
--- what is left behind the first record, and behind n of them
-abbrev pub behind : List ℕ → List ℕ
-behind [] = []
-behind (k ∷ xs) = drop (size_of k) xs
+-- the bytes of the record at the front, its kind and its body
+abbrev pub record_size : List ℕ → ℕ
+record_size [] = 0
+record_size (k ∷ xs) = 1 + size_of k
 
-unfoldable pub rest_at : List ℕ → ℕ → List ℕ
-rest_at xs zero = xs
-rest_at xs (suc n) = behind (rest_at xs n)
+-- where record n begins in a buffer, and what stands there
+unfoldable pub offset_of : List ℕ → ℕ → ℕ
+offset_of xs zero = 0
+offset_of xs (suc n) = offset_of xs n + record_size (drop (offset_of xs n) xs)
+
+abbrev pub rest_at : List ℕ → ℕ → List ℕ
+rest_at xs n = drop (offset_of xs n) xs
 
 -- a reader goes on where a record was read, and stays where none was
 abbrev pub moved : Result (Option (ℕ × Item)) Refusal → ℕ → ℕ
 moved (Ok (Some p)) n = n + 1
 moved (Ok None) n = n
 moved (Err e) n = n
+
+-- what n reads answer, one after the other, from record i on
+unfoldable pub reads : List ℕ → ℕ → ℕ → List (Result (Option (ℕ × Item)) Refusal)
+reads xs i zero = []
+reads xs i (suc n) = look i (rest_at xs i) ∷ reads xs (moved (look i (rest_at xs i)) i) n

@@ -9,7 +9,6 @@ mod reader;
 mod record;
 mod refusal;
 mod scramble;
-mod walk;
 
 pub use block::{Block, Header, UnknownKind};
 pub use calls::{group_of, is_sound, read_group, write_group};
