@@ -2,7 +2,7 @@ use Rattle.std.proofs.Common.{◌≡◌, ℕ, ◌+◌, ◌-◌, List, length, ta
 use Rattle.std.proofs.lemmas.List.{nil_from_length, take_all}
 use Rattle.std.proofs.lemmas.Result.{err_from_is_err_and}
 use Rattle.blocks.specs.Records.{Item, item_of}
-use Rattle.blocks.specs.Walk.{kind_byte, shown}
+use Rattle.blocks.specs.Walk.{kind_byte, item, shown}
 use Rattle.blocks.specs.declared.refusal.Refusal.TheVariants.{Kind}
 use Rattle.blocks.proofs.Walking.{at_end, unknown, front_and_rest, cut_short, stands, offset_on, goes_on}
 use Rattle.blocks.proofs.reader.Reader.next.Goals as goal
@@ -47,5 +47,6 @@ returns-clause-answer c =
     let rest : List ℕ = drop 1 me.rest.now in
     let l : length rest ≡ length me.rest.now - 1 = length-drop 1 me.rest.now in
     let z : 1 + c.body_size-end.result - 1 ≡ c.body_size-end.result = omega arith in
-    ap (λ (x : Item). Ok (Some (me.index, x))) (c.record.ensures.value ∙ ap (λ (j : ℕ). item_of (kind_byte kind) (take j rest)) z)
+    let whole : item c.record.result ≡ item_of (kind_byte kind) (take c.body_size-end.result rest) = search (rules, z) in
+    ap (λ (x : Item). Ok (Some (me.index, x))) whole
     ∙ sym (stands _ _ _ _ rest kind _ me.placed (front_and_rest me.rest.now (omega arith)) (search rules) c.body_size-end.ensures.value (omega arith))
