@@ -100,6 +100,33 @@ def four(records):
     print(f"read - {buffer(group).hex()} {b''.join(back).hex()}")
 
 
+def group_or_refusal(data):
+    """What a group is made of, or why none is made."""
+    if len(data) != 36:
+        return "length"
+    records = [data[i : i + 9] for i in range(0, 36, 9)]
+    bad = next((i for i in range(4) if records[i][0] > 3), None)
+    return ("kind", bad) if bad is not None else write(records)
+
+
+def block_or_refusal(data):
+    return ("kind", data[0]) if data[0] > 3 else data
+
+
+def bad_header(data):
+    return data[0] if data[0] in (0, 3) else None
+
+
+def same(what, model, a, b):
+    print(f"{what} {hexed(a)} {hexed(b)} {'yes' if model(a) == model(b) else 'no'}")
+
+
+def flipped(data, bit):
+    changed = bytearray(data)
+    changed[bit // 8] ^= 1 << bit % 8
+    return bytes(changed)
+
+
 def record(kind, body):
     return bytes([kind]) + body
 
@@ -166,6 +193,28 @@ def main():
     for start in (2**58, 2**63, 2**64 - 1):
         print(f"scramble {start_text(start)} - 5:0")
         print(f"descramble {start_text(start)} - 5:0")
+
+    # groups, refusals, blocks, kinds and bad headers beside others of their sort, as == tells them apart
+    control = record(1, b"\x1e" + octets(7)) + good[9:]
+    for data in (good, control):
+        same("same_groups", group_or_refusal, data, data)
+        for i in range(0, 288, 7):
+            same("same_groups", group_or_refusal, data, flipped(data, i))
+    same("same_groups", group_or_refusal, good, good[:35])
+    same("same_groups", group_or_refusal, good[:9], good[:35])
+    for i in range(4):
+        for j in range(4):
+            a, b = bytearray(good), bytearray(good)
+            a[9 * i], b[9 * j] = 4, 16
+            same("same_groups", group_or_refusal, bytes(a), bytes(b))
+        same("same_groups", group_or_refusal, bytes(a), good[:35])
+    for kind in range(6):
+        data = record(kind, octets(8))
+        same("same_blocks", block_or_refusal, data, data)
+        for i in range(0, 72, 5):
+            same("same_blocks", block_or_refusal, data, flipped(data, i))
+        for other in range(6):
+            same("same_headers", bad_header, data, record(other, octets(8)))
 
 
 if __name__ == "__main__":

@@ -3,8 +3,9 @@
 #![tactic(auto)]
 
 use anyhow::anyhow;
-use blocks::{BadHeader, Descrambler, Group, Reader, Record, Refusal, Scrambler};
+use blocks::{BadHeader, Block, Descrambler, Group, Reader, Record, Refusal, Scrambler};
 use std::alloc::Global;
+use std::array;
 use std::io::{BufRead, BufReader};
 
 // How many cases were tried, and of how many the answer was the expected one. The program code_cases has one too: a
@@ -65,11 +66,27 @@ fn filled<F: FnOnce(&mut [u8]) -> Result<(), Refusal>>(
     }
 }
 
+fn yes_or_no(heap: Global, yes: bool) -> anyhow::Result<String> {
+    Ok(String::from_str(heap, if yes { "yes" } else { "no" })?)
+}
+
 fn sound(heap: Global, records: &[u8]) -> anyhow::Result<String> {
     match blocks::is_sound(records) {
-        Ok(true) => Ok(String::from_str(heap, "yes")?),
-        Ok(false) => Ok(String::from_str(heap, "no")?),
+        Ok(yes) => yes_or_no(heap, yes),
         Err(e) => refusal(heap, e),
+    }
+}
+
+// The nine octets of a record; those that are not given count as 0.
+fn nine(octets: &[u8]) -> [u8; 9] {
+    array::from_fn(|i| octets.get(i).copied().unwrap_or(0))
+}
+
+// Which bad header the first record has, if any.
+fn bad_header(octets: &[u8]) -> Option<BadHeader> {
+    match Reader::new(octets).next() {
+        Ok(Some((_, Record::BadHeader(header, _)))) => Some(header),
+        _ => None,
     }
 }
 
@@ -143,6 +160,12 @@ fn answer(heap: Global, what: &str, start: &[u8], input: &[u8]) -> anyhow::Resul
         ),
         "sound" => sound(heap, input),
         "walk" => walk(heap, input),
+        "same_groups" => yes_or_no(heap, blocks::group_of(start) == blocks::group_of(input)),
+        "same_blocks" => yes_or_no(
+            heap,
+            Block::try_from(nine(start)) == Block::try_from(nine(input)),
+        ),
+        "same_headers" => yes_or_no(heap, bad_header(start) == bad_header(input)),
         "scramble" => match Scrambler::new(start_of(start)) {
             Ok(mut scrambler) => passed(heap, input, |group| scrambler.scramble(group)),
             Err(e) => refusal(heap, e),
