@@ -1,5 +1,5 @@
 -- Lists of 0 and 1.
-use Rattle.std.proofs.Common.{◌≡◌, ℕ, zero, suc, ◌<◌, List, [], ◌∷◌, ◌++◌, take, drop, arith}
+use Rattle.std.proofs.Common.{ℕ, zero, suc, ◌<◌, List, [], ◌∷◌, ◌++◌, take, drop, arith}
 use Rattle.bits.specs.Bits.{bit, field, Binary}
 
 pub binary_none : Binary []

@@ -5,3 +5,4 @@ pub mod Lowest
 pub mod Arrays
 pub mod Binary
 pub mod Every
+pub mod Numbers

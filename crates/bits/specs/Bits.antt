@@ -37,3 +37,7 @@ nth bs i = slice_index bs i
 -- a list of 0 and 1
 abbrev pub Binary : List ℕ → Type 0
 Binary bs = (i : ℕ) → nth bs i < 2
+
+-- a list of octets
+abbrev pub Octets : List ℕ → Type 0
+Octets xs = (i : ℕ) → nth xs i < 256

@@ -8,7 +8,7 @@ use Rattle.bits.specs.Bits.{number, octet_bits}
 use Rattle.blocks.specs.Groups.{one_if}
 use Rattle.blocks.specs.Blocks.{kind_of, header_of, block_in, blocks_in}
 use Rattle.bits.specs.Lowest.{lowest}
-use Rattle.blocks.specs.Calls.{kind_above_3, begun, bad_kind, four_refused, answered}
+use Rattle.blocks.specs.Calls.{kind_above_3, begun, bad_kind, four_refused, outcome_of}
 use Rattle.blocks.specs.declared.block.Block.{Block}
 use Rattle.blocks.specs.declared.block.Header.{Header}
 use Rattle.blocks.specs.declared.block.Header.TheVariants.{Zeros, Control, Data, Ones}
@@ -17,7 +17,7 @@ use Rattle.blocks.specs.declared.refusal.Refusal.TheVariants.{Length, Kind}
 use Rattle.bits.proofs.Lowest.{lowest_past, lowest-found}
 use Rattle.bits.proofs.Arrays.{chunk_at}
 
-pub wrong_count : {A : Type 0} (a : A) (xs : List ℕ) → (length xs ≡ 36 → ⊥) → Err Length ≡ answered a (four_refused xs)
+pub wrong_count : {A : Type 0} (a : A) (xs : List ℕ) → (length xs ≡ 36 → ⊥) → Err Length ≡ outcome_of a (four_refused xs)
 unfolding four_refused
 wrong_count a xs h = let e : eqb (length xs) 36 ≡ false = ne_eqb _ _ h in rw e
 
@@ -45,7 +45,7 @@ module _ (xs : List ℕ) (long : length xs ≡ 36) (cs : List (List ℕ)) (front
   known (suc i) l h = rw add-one at (lowest_past (kind_above_3 xs) i (known i (omega arith) h.0) (le-ltb 3 (get_or xs (9 * i) 0) (omega (arith, kind_byte i (omega arith), h.1))))
 
   -- record i is refused, and none in front of it
-  pub wrong_kind : {A : Type 0} (a : A) (answer : Result A Refusal) (e : Refusal) (i : ℕ) → IsErrAnd answer (λ x. x ≡ e) → (3 < get_or (get_or cs i []) 0 0) × (e ≡ Kind i) → i < 4 → Taken cs i → answer ≡ answered a (four_refused xs)
+  pub wrong_kind : {A : Type 0} (a : A) (answer : Result A Refusal) (e : Refusal) (i : ℕ) → IsErrAnd answer (λ x. x ≡ e) → (3 < get_or (get_or cs i []) 0 0) × (e ≡ Kind i) → i < 4 → Taken cs i → answer ≡ outcome_of a (four_refused xs)
   unfolding four_refused bad_kind
   wrong_kind a answer e i gives why l h =
       let p = err_from_is_err_and answer gives in
@@ -62,7 +62,7 @@ module _ (xs : List ℕ) (long : length xs ≡ 36) (cs : List (List ℕ)) (front
   block_of i l b e = e ∙ ap block_in (chunk i l) ∙ block_in-take (drop (9 * i) xs)
 
   pub four_taken : (a b c d : Block) → a ≡ block_in (get_or cs 0 []) → b ≡ block_in (get_or cs 1 []) → c ≡ block_in (get_or cs 2 []) → d ≡ block_in (get_or cs 3 []) → Taken cs 4 →
-      Ok (a ∷ b ∷ c ∷ d ∷ []) ≡ answered (blocks_in 4 xs) (four_refused xs)
+      Ok (a ∷ b ∷ c ∷ d ∷ []) ≡ outcome_of (blocks_in 4 xs) (four_refused xs)
   unfolding blocks_in
   four_taken a b c d ea eb ec ed h =
       let p = block_of 0 (omega arith) a ea in

@@ -10,3 +10,4 @@ pub mod Scrambles
 pub mod Passing
 pub mod Words
 pub mod Shapes
+pub mod Bytes

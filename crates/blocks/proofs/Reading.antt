@@ -2,7 +2,7 @@
 use Rattle.std.proofs.Common.{◌≡◌, ℕ, ◌+◌, ◌*◌, ◌<◌, true, false, eqb, List, [], ◌∷◌, map, length, get_or, take, drop, set, Some, None, Option, MatchOption, sym, refl, ◌∙◌, ap₂, inl, inr, arith}
 use Rattle.std.proofs.lemmas.Bool.{cases_Bool}
 use Rattle.bits.specs.Bits.{field, number}
-use Rattle.blocks.specs.Groups.{blocks_of, read_back, flags_back, flagged, control_back, some_control, first_control_place, some_zero, first_zero_place, high_digit, with_digit_at, words}
+use Rattle.blocks.specs.Groups.{blocks_under, read_back, flags_back, flagged, control_back, some_control, first_control_place, some_zero, first_zero_place, high_digit, with_digit_at, words}
 use Rattle.blocks.specs.declared.block.Header.{Header}
 use Rattle.blocks.specs.declared.block.Header.TheVariants.{Zeros, Data, Ones}
 use Rattle.blocks.proofs.Parts.{take_in}
@@ -23,7 +23,7 @@ first_zero (f ∷ fs) = elim (cases_Bool (eqb f 0)) [
 ]
 
 -- bit 0 is 1
-pub data_read : (s : List ℕ) → blocks_of (Data ∷ Data ∷ Data ∷ Data ∷ []) s ≡ read_back (1 ∷ s)
+pub data_read : (s : List ℕ) → blocks_under (Data ∷ Data ∷ Data ∷ Data ∷ []) s ≡ read_back (1 ∷ s)
 unfolding read_back
 data_read s = refl
 
@@ -43,7 +43,7 @@ module _ (ps : List ℕ) (l : 0 < length ps) where
       rw (t, z, p)
 
   pub bad_read : some_control (map flagged (field (get_or ps 0 0) 0 4)) ≡ false →
-      blocks_of (Zeros ∷ Ones ∷ Zeros ∷ Ones ∷ []) (with_digit_at 4 0 (drop 4 (words ps))) ≡ read_back (0 ∷ words ps)
+      blocks_under (Zeros ∷ Ones ∷ Zeros ∷ Ones ∷ []) (with_digit_at 4 0 (drop 4 (words ps))) ≡ read_back (0 ∷ words ps)
   unfolding read_back flags_back
   bad_read s =
       let t = front ps l in
@@ -52,7 +52,7 @@ module _ (ps : List ℕ) (l : 0 < length ps) where
 
 -- the digit that fits, or none
 pub control_put : (fs : List ℕ) (at d : ℕ) (rest : List ℕ) (hs : List Header) (o : Option ℕ) → MatchOption o ((hs ≡ set (map flagged fs) at Ones) × (d ≡ 0)) (λ e. (hs ≡ map flagged fs) × (d ≡ e)) →
-    blocks_of hs (with_digit_at (64 * at + 4) d rest) ≡ control_back fs at rest o
+    blocks_under hs (with_digit_at (64 * at + 4) d rest) ≡ control_back fs at rest o
 unfolding control_back
-control_put fs at d rest hs (Some e) h = ap₂ (λ (gs : List Header) (x : ℕ). blocks_of gs (with_digit_at (64 * at + 4) x rest)) h.0 h.1
-control_put fs at d rest hs None h = ap₂ (λ (gs : List Header) (x : ℕ). blocks_of gs (with_digit_at (64 * at + 4) x rest)) h.0 h.1
+control_put fs at d rest hs (Some e) h = ap₂ (λ (gs : List Header) (x : ℕ). blocks_under gs (with_digit_at (64 * at + 4) x rest)) h.0 h.1
+control_put fs at d rest hs None h = ap₂ (λ (gs : List Header) (x : ℕ). blocks_under gs (with_digit_at (64 * at + 4) x rest)) h.0 h.1

@@ -7,7 +7,7 @@ use Rattle.std.proofs.lemmas.List.{take_at, drop_at, length-set}
 use Rattle.std.proofs.lemmas.Bool.{cases_Bool, eqb-true}
 use Rattle.bits.specs.Bits.{field, number}
 use Rattle.blocks.specs.Blocks.{second_bit, is_control, payload_bits}
-use Rattle.blocks.specs.Groups.{headers, payloads, all_good, some_control, first_control_place, without, with_digit_at, group_bits, types, fitting, high_digit, flagged, some_zero, first_zero_place, blocks_of, control_back, flags_back, read_back}
+use Rattle.blocks.specs.Groups.{headers, payloads, all_good, some_control, first_control_place, without, with_digit_at, group_bits, types, fitting, high_digit, flagged, some_zero, first_zero_place, blocks_under, control_back, flags_back, read_back}
 use Rattle.blocks.specs.Sound.{among, is_type, payload_at, sound, retyped, put_digit, with_headers, control_comes, comes_back, Payloads, GroupsReturn}
 use Rattle.blocks.specs.declared.block.Header.{Header}
 use Rattle.blocks.specs.declared.block.Header.TheVariants.{Zeros, Control, Data, Ones}
@@ -64,12 +64,12 @@ digit_low (suc c) (b ∷ bs) l =
     ∙ digit_low c bs (omega arith))
 
 -- blocks out of payloads
-under : (hs : List Header) (bs : List Block) → length hs ≡ length bs → Payloads bs → blocks_of hs (payloads bs) ≡ with_headers hs bs
+under : (hs : List Header) (bs : List Block) → length hs ≡ length bs → Payloads bs → blocks_under hs (payloads bs) ≡ with_headers hs bs
 under [] [] e p = refl
 under [] (b ∷ bs) e p = absurd (omega arith)
 under (h ∷ hs) [] e p = absurd (omega arith)
 under (h ∷ hs) (b ∷ bs) e p =
-    ap₂ (λ (x : ℕ) (s : List ℕ). record { header = h; payload = x } ∷ blocks_of hs s)
+    ap₂ (λ (x : ℕ) (s : List ℕ). record { header = h; payload = x } ∷ blocks_under hs s)
     (ap number (take_at (payload_bits b) (payloads bs) 64 (length-field b.payload 0 64)) ∙ number-whole b.payload 64 p.0)
     (drop_at (payload_bits b) (payloads bs) 64 (length-field b.payload 0 64))
     ∙ ap (λ (l : List Block). record { header = h; payload = b.payload } ∷ l) (under hs bs (omega arith) p.1)
@@ -140,11 +140,11 @@ control_returned : (hs : List Header) (c : ℕ) (bs : List Block) (o : Option �
 unfolding control_back
 control_returned hs c bs (Some d) e l p s flags f =
     let h : d < 16 = s d refl in
-    ap₂ (λ (gs : List Header) (t : List ℕ). blocks_of gs t) (f ∙ e ∙ sym (headers_put c d bs)) (digit_put c d bs l h)
+    ap₂ (λ (gs : List Header) (t : List ℕ). blocks_under gs t) (f ∙ e ∙ sym (headers_put c d bs)) (digit_put c d bs l h)
     ∙ under (headers (put_digit c d bs)) (put_digit c d bs) (length-headers (put_digit c d bs)) (payloads_put c d bs h p) ∙ own-headers (put_digit c d bs)
 control_returned hs c bs None e l p s flags f =
     let n : length (set (headers bs) c Ones) ≡ length (put_digit c 0 bs) = length-set (headers bs) c Ones ∙ length-headers bs ∙ sym (length_put c 0 bs) in
-    ap₂ (λ (gs : List Header) (t : List ℕ). blocks_of (set gs c Ones) t) (f ∙ e) (digit_put c 0 bs l (omega arith))
+    ap₂ (λ (gs : List Header) (t : List ℕ). blocks_under (set gs c Ones) t) (f ∙ e) (digit_put c 0 bs l (omega arith))
     ∙ under (set (headers bs) c Ones) (put_digit c 0 bs) n (payloads_put c 0 bs (omega arith) p)
 
 -- reading back behind bit 0 and four flags
@@ -183,7 +183,7 @@ module _ (bs : List Block) (g : all_good (headers bs) ≡ false) where
   unfolding comes_back
   bad_came = rw g
 
-bad_flags : (rest : List ℕ) → flags_back (1 ∷ 1 ∷ 1 ∷ 1 ∷ []) rest ≡ blocks_of (Zeros ∷ Ones ∷ Zeros ∷ Ones ∷ []) (with_digit_at 4 0 rest)
+bad_flags : (rest : List ℕ) → flags_back (1 ∷ 1 ∷ 1 ∷ 1 ∷ []) rest ≡ blocks_under (Zeros ∷ Ones ∷ Zeros ∷ Ones ∷ []) (with_digit_at 4 0 rest)
 unfolding flags_back
 bad_flags rest = refl
 
@@ -210,7 +210,7 @@ module _ (a b c d : Block) (p : Payloads (a ∷ b ∷ c ∷ d ∷ [])) where
         ]
         | inr g ↦
             ap read_back (bad_written bs g) ∙ flags_read 1 1 1 1 (without 4 (payloads bs)) ∙ bad_flags (without 4 (payloads bs))
-            ∙ ap (blocks_of (Zeros ∷ Ones ∷ Zeros ∷ Ones ∷ [])) (digit_put 0 0 bs (omega arith) (omega arith))
+            ∙ ap (blocks_under (Zeros ∷ Ones ∷ Zeros ∷ Ones ∷ [])) (digit_put 0 0 bs (omega arith) (omega arith))
             ∙ under (Zeros ∷ Ones ∷ Zeros ∷ Ones ∷ []) (put_digit 0 0 bs) refl (payloads_put 0 0 bs (omega arith) p)
             ∙ sym (bad_came bs g)
       ]

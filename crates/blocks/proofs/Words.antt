@@ -6,12 +6,12 @@ use Rattle.std.proofs.lemmas.Nat.{shr-shr, pow-add, pow_pos, shl-shr, mod_low, s
 use Rattle.std.specs.Int.{reverse_bits_onto}
 use Rattle.std.proofs.lemmas.Bool.{cases_lt}
 use Rattle.bits.specs.Bits.{bit, field, table, nth}
-use Rattle.blocks.specs.Scrambled.{before, scrambled, received, descrambled, scrambled_bits, scrambler_after, descrambled_bits, descrambler_after, memory_in}
+use Rattle.blocks.specs.Scrambled.{tapped, pushed, stream_bits, stream_after, what_came_in, what_went_out, scrambled_bits, scrambler_after, descrambled_bits, descrambler_after, memory_in}
 use Rattle.blocks.specs.Groups.{one_if}
 use Rattle.blocks.specs.Taps.{tail, taps}
-use Rattle.bits.proofs.Fields.{length-field, bit-mod}
-use Rattle.blocks.proofs.Scrambles.{cancel, before_same, received-same}
-use Rattle.bits.proofs.Tables.{table_same, nth-table, field-table}
+use Rattle.bits.proofs.Fields.{bit-mod}
+use Rattle.blocks.proofs.Scrambles.{cancel}
+use Rattle.bits.proofs.Tables.{table_same, nth-table, take-table, table-suc, field-table}
 
 -- bits of a number
 pub bit-bit_xor : (a b i : ℕ) → bit (bit_xor a b) i ≡ bit_xor (bit a i) (bit b i)
@@ -92,8 +92,8 @@ shifted_out j k x l =
     ∙ ap (λ (z : ℕ). z % 2 ^ 64) (mul_assoc x (2 ^ k) (2 ^ j) ∙ ap (λ (z : ℕ). x * z) (mul_comm (2 ^ k) (2 ^ j) ∙ sym (pow-add 2 j k) ∙ ap (λ (z : ℕ). 2 ^ z) e ∙ pow-add 2 (j + k - 64) 64) ∙ sym (mul_assoc x (2 ^ (j + k - 64)) (2 ^ 64)))
     ∙ mul-mod_left (x * 2 ^ (j + k - 64)) (2 ^ 64)
 
-tapped : (t u a b : ℕ) → t ≡ bit_xor (bit_xor u a) b → bit_xor (bit_xor t a) b ≡ u
-tapped t u a b e =
+cancel_both : (t u a b : ℕ) → t ≡ bit_xor (bit_xor u a) b → bit_xor (bit_xor t a) b ≡ u
+cancel_both t u a b e =
     ap (λ (z : ℕ). bit_xor (bit_xor z a) b) (e ∙ xor_assoc u a b ∙ ap (bit_xor u) (xor_comm a b) ∙ sym (xor_assoc u b a)) ∙ ap (λ (z : ℕ). bit_xor z b) (cancel (bit_xor u b) a) ∙ cancel u b
 
 -- twice is not at all
@@ -105,7 +105,7 @@ taps_twice u =
     let t = taps u in
     let kept : (k : ℕ) → 25 ≤ k → shifted k t ≡ shifted k u = λ k l.
     shifted_xor k (bit_xor u a) b ∙ ap₂ bit_xor (shifted_xor k u a ∙ ap (bit_xor (shifted k u)) (shifted_out k 39 u (omega arith)) ∙ xor_zero_r (shifted k u)) (shifted_out k 58 u (omega arith)) ∙ xor_zero_r (shifted k u) in
-    ap₂ (λ (p q : ℕ). bit_xor (bit_xor t p) q) (kept 39 (omega arith)) (kept 58 (omega arith)) ∙ tapped t u a b refl
+    ap₂ (λ (p q : ℕ). bit_xor (bit_xor t p) q) (kept 39 (omega arith)) (kept 58 (omega arith)) ∙ cancel_both t u a b refl
 
 -- what scrambling gives for a word
 pub out_bit : (m x i : ℕ) → m < 2 ^ 58 → i < 64 →
@@ -117,69 +117,56 @@ out_bit m x i h l =
     let f : bit_xor (bit y i) w ≡ bit x i = sym (back_bit m y i h l) ∙ ap (λ (z : ℕ). bit z i) e in
     sym (cancel (bit y i) w) ∙ ap (λ (z : ℕ). bit_xor z w) f
 
-nth-field : (x n i : ℕ) → i < n → nth (field x 0 n) i ≡ bit x i
-nth-field x n i l = ap (λ (bs : List ℕ). nth bs i) (field-table x 0 n) ∙ nth-table n (λ j. bit x (0 + j)) i l ∙ ap (bit x) (omega arith)
+-- the memory before bit i of a history
+abbrev window : ℕ → ℕ → List ℕ
+window h i = table 58 (λ k. bit h (i + 57 - k))
 
-module _ (m y : ℕ) (small : m < 2 ^ 58) where
-  past : ℕ → ℕ
-  past k = bit (history m y) (57 - k)
+window_nth : (h i k j : ℕ) → k < 58 → j + k ≡ i + 57 → nth (window h i) k ≡ bit h j
+window_nth h i k j l e = nth-table 58 (λ k. bit h (i + 57 - k)) k l ∙ ap (bit h) (omega arith)
 
-  past_is : (k : ℕ) → k < 58 → nth (memory_in m) k ≡ past k
-  unfolding past
-  past_is k l = nth-table 58 (λ j. bit m (57 - j)) k l ∙ sym (memory_bit m y (57 - k) small (omega arith))
+window_next : (h i : ℕ) → pushed (bit h (58 + i)) (window h i) ≡ window h (suc i)
+window_next h i =
+    ap₂ (λ (b : ℕ) (l : List ℕ). b ∷ l) (ap (bit h) (omega arith))
+    (take-table 57 1 (λ k. bit h (i + 57 - k)) ∙ table_same 57 (λ k. bit h (i + 57 - k)) (λ k. bit h (suc i + 57 - suc k)) (λ k l. ap (bit h) (omega arith)))
+    ∙ sym (table-suc 57 (λ k. bit h (suc i + 57 - k)))
 
-  -- n bits of x went out as those of y
-  module _ (x n : ℕ) (step : (i : ℕ) → i < n → bit y i ≡ bit_xor (bit x i) (bit_xor (bit (history m y) (19 + i)) (bit (history m y) i))) where
-    went_out : (j k : ℕ) → j ≤ n → k < 58 → before past (bit x) j k ≡ bit (history m y) (57 + j - k)
-    unfolding before past
-    went_out zero k h l = refl
-    went_out (suc j) zero h l =
-        let a : before past (bit x) j 38 ≡ bit (history m y) (19 + j) = went_out j 38 (omega arith) (omega arith) ∙ ap (bit (history m y)) (omega arith) in
-        let b : before past (bit x) j 57 ≡ bit (history m y) j = went_out j 57 (omega arith) (omega arith) ∙ ap (bit (history m y)) (omega arith) in
-        ap₂ (λ (u v : ℕ). bit_xor (bit x j) (bit_xor u v)) a b ∙ sym (step j (omega arith)) ∙ sym (output_bit m y j small) ∙ ap (bit (history m y)) (omega arith)
-    went_out (suc j) (suc k) h l = went_out j k (omega arith) (omega arith) ∙ ap (bit (history m y)) (omega arith)
+-- n bits of x gave those of y, and those of w were remembered
+module _ (kept : ℕ → ℕ → ℕ) (m w x y n : ℕ) (small : m < 2 ^ 58)
+    (remembers : (i : ℕ) → i < n → kept (bit x i) (bit y i) ≡ bit w i)
+    (step : (i : ℕ) → i < n → bit y i ≡ bit_xor (bit x i) (bit_xor (bit (history m w) (19 + i)) (bit (history m w) i)))
+  where
+    first_window : memory_in m ≡ window (history m w) 0
+    first_window = table_same 58 (λ k. bit m (57 - k)) (λ k. bit (history m w) (0 + 57 - k)) (λ k l. sym (memory_bit m w (57 - k) small (omega arith)) ∙ ap (bit (history m w)) (omega arith))
 
-    out_is : (j k : ℕ) → j ≤ n → k < 58 → before (nth (memory_in m)) (nth (field x 0 n)) j k ≡ bit (history m y) (57 + j - k)
-    out_is j k h l =
-        before_same (nth (memory_in m)) past (nth (field x 0 n)) (bit x) j k past_is (λ i g. nth-field x n i (omega arith)) l ∙ went_out j k h l
+    gives_bit : (i : ℕ) → i < n → tapped (window (history m w) i) (bit x i) ≡ bit y i
+    gives_bit i l =
+        let h : ℕ = history m w in
+        ap₂ (λ (u v : ℕ). bit_xor (bit x i) (bit_xor u v)) (window_nth h i 38 (19 + i) (omega arith) (omega arith)) (window_nth h i 57 i (omega arith) (omega arith)) ∙ sym (step i l)
 
-    pub word_out : scrambled_bits (memory_in m) (field x 0 n) ≡ field y 0 n
-    unfolding scrambled_bits
-    word_out =
-        ap (λ (k : ℕ). table k (scrambled (nth (memory_in m)) (nth (field x 0 n)))) (length-field x 0 n)
-        ∙ table_same n _ (λ j. bit y (0 + j)) (λ i l. out_is (suc i) 0 (omega arith) (omega arith) ∙ ap (bit (history m y)) (omega arith) ∙ output_bit m y i small ∙ ap (bit y) (omega arith))
-        ∙ sym (field-table y 0 n)
+    leaves_window : (i : ℕ) → i < n → pushed (kept (bit x i) (tapped (window (history m w) i) (bit x i))) (window (history m w) i) ≡ window (history m w) (suc i)
+    leaves_window i l =
+        let h : ℕ = history m w in
+        ap (λ (c : ℕ). pushed (kept (bit x i) c) (window h i)) (gives_bit i l) ∙ ap (λ (c : ℕ). pushed c (window h i)) (remembers i l ∙ sym (output_bit m w i small)) ∙ window_next h i
 
-    pub word_after : (m' : ℕ) → ((k : ℕ) → k < 58 → bit m' (57 - k) ≡ bit (history m y) (57 + n - k)) → scrambler_after (memory_in m) (field x 0 n) ≡ memory_in m'
-    unfolding scrambler_after
-    word_after m' e = table_same 58 _ (λ k. bit m' (57 - k)) (λ k l.
-        ap (λ (j : ℕ). before (nth (memory_in m)) (nth (field x 0 n)) j k) (length-field x 0 n) ∙ out_is n k (omega arith) l ∙ sym (e k l))
+    bits_from : (j i : ℕ) → i + j ≡ n → stream_bits kept (window (history m w) i) (field x i j) ≡ field y i j
+    unfolding stream_bits field
+    bits_from zero i e = refl
+    bits_from (suc j) i e =
+        ap₂ (λ (c : ℕ) (l : List ℕ). c ∷ l) (gives_bit i (omega arith))
+        (ap (λ (o : List ℕ). stream_bits kept o (field x (suc i) j)) (leaves_window i (omega arith)) ∙ bits_from j (suc i) (omega arith))
 
-  -- n bits of y came in
-  module _ (n : ℕ) where
-    came_in : (j k : ℕ) → j ≤ n → k < 58 → received past (bit y) j k ≡ bit (history m y) (57 + j - k)
-    unfolding received past
-    came_in zero k h l = refl
-    came_in (suc j) zero h l = sym (output_bit m y j small) ∙ ap (bit (history m y)) (omega arith)
-    came_in (suc j) (suc k) h l = came_in j k (omega arith) (omega arith) ∙ ap (bit (history m y)) (omega arith)
+    after_from : (j i : ℕ) → i + j ≡ n → stream_after kept (window (history m w) i) (field x i j) ≡ window (history m w) n
+    unfolding stream_after field
+    after_from zero i e = ap (window (history m w)) (omega arith)
+    after_from (suc j) i e = ap (λ (o : List ℕ). stream_after kept o (field x (suc i) j)) (leaves_window i (omega arith)) ∙ after_from j (suc i) (omega arith)
 
-    in_is : (j k : ℕ) → j ≤ n → k < 58 → received (nth (memory_in m)) (nth (field y 0 n)) j k ≡ bit (history m y) (57 + j - k)
-    in_is j k h l =
-        received-same (nth (memory_in m)) past (nth (field y 0 n)) (bit y) j k past_is (λ i g. nth-field y n i (omega arith)) l ∙ came_in j k h l
+    pub word_gives : field y 0 n ≡ stream_bits kept (memory_in m) (field x 0 n)
+    word_gives = sym (ap (λ (o : List ℕ). stream_bits kept o (field x 0 n)) first_window ∙ bits_from n 0 (omega arith))
 
-    pub word_back : (d : ℕ) → ((i : ℕ) → i < n → bit d i ≡ bit_xor (bit y i) (bit_xor (bit (history m y) (19 + i)) (bit (history m y) i))) → descrambled_bits (memory_in m) (field y 0 n) ≡ field d 0 n
-    unfolding descrambled_bits
-    word_back d e =
-        ap (λ (k : ℕ). table k (descrambled (nth (memory_in m)) (nth (field y 0 n)))) (length-field y 0 n)
-        ∙ table_same n _ (λ j. bit d (0 + j)) (λ i l.
-        ap₂ bit_xor (nth-field y n i l) (ap₂ bit_xor (in_is i 38 (omega arith) (omega arith) ∙ ap (bit (history m y)) (omega arith)) (in_is i 57 (omega arith) (omega arith) ∙ ap (bit (history m y)) (omega arith)))
-        ∙ sym (e i l) ∙ ap (bit d) (omega arith))
-        ∙ sym (field-table d 0 n)
-
-    pub word_heard : (m' : ℕ) → ((k : ℕ) → k < 58 → bit m' (57 - k) ≡ bit (history m y) (57 + n - k)) → descrambler_after (memory_in m) (field y 0 n) ≡ memory_in m'
-    unfolding descrambler_after
-    word_heard m' e = table_same 58 _ (λ k. bit m' (57 - k)) (λ k l.
-        ap (λ (j : ℕ). received (nth (memory_in m)) (nth (field y 0 n)) j k) (length-field y 0 n) ∙ in_is n k (omega arith) l ∙ sym (e k l))
+    pub word_leaves : (m' : ℕ) → ((k : ℕ) → k < 58 → bit m' (57 - k) ≡ bit (history m w) (57 + n - k)) → memory_in m' ≡ stream_after kept (memory_in m) (field x 0 n)
+    word_leaves m' e =
+        table_same 58 (λ k. bit m' (57 - k)) (λ k. bit (history m w) (n + 57 - k)) (λ k l. e k l ∙ ap (bit (history m w)) (omega arith))
+        ∙ sym (ap (λ (o : List ℕ). stream_after kept o (field x 0 n)) first_window ∙ after_from n 0 (omega arith))
 
 -- the memory behind a word of 64 bits, and behind one bit
 pub memory_64 : (m y k : ℕ) → m < 2 ^ 58 → k < 58 → bit (y / 2 ^ 6) (57 - k) ≡ bit (history m y) (57 + 64 - k)
@@ -249,31 +236,28 @@ module _ (m : ℕ) (small : m < 2 ^ 58) where
       (field y 0 64 ≡ scrambled_bits (memory_in m) (field x 0 64)) × (memory_in (y / 2 ^ 6) ≡ scrambler_after (memory_in m) (field x 0 64))
   scrambled-word x y e =
       let Step : ℕ → Type 0 = λ (z : ℕ). (i : ℕ) → i < 64 → bit z i ≡ bit_xor (bit x i) (bit_xor (bit (history m z) (19 + i)) (bit (history m z) i)) in
-      let step : Step y = subst Step (sym e) (λ i l. out_bit m x i small l) in
-      (sym (word_out m y small x 64 step), sym (word_after m y small x 64 step (y / 2 ^ 6) (λ k l. memory_64 m y k small l)))
+      let step : Step y = subst Step (sym e) (λ i l. out_bit m x i small l) in (
+        word_gives what_went_out m y x y 64 small (λ i l. refl) step,
+        word_leaves what_went_out m y x y 64 small (λ i l. refl) step (y / 2 ^ 6) (λ k l. memory_64 m y k small l),
+      )
 
   pub descrambled-word : (y d : ℕ) → d ≡ bit_xor (taps y) (tail m) →
       (field d 0 64 ≡ descrambled_bits (memory_in m) (field y 0 64)) × (memory_in (y / 2 ^ 6) ≡ descrambler_after (memory_in m) (field y 0 64))
-  descrambled-word y d e = (
-    sym (word_back m y small 64 d (λ i l. ap (λ (z : ℕ). bit z i) e ∙ back_bit m y i small l)),
-    sym (word_heard m y small 64 (y / 2 ^ 6) (λ k l. memory_64 m y k small l)),
-  )
-
-  pub scrambled_one : (x y : ℕ) → x < 2 → y ≡ bit_xor x (tail m) % 2 →
-      (y ∷ [] ≡ scrambled_bits (memory_in m) (x ∷ [])) × (memory_in (m / 2 + y * 2 ^ 57 % 2 ^ 64) ≡ scrambler_after (memory_in m) (x ∷ []))
-  scrambled_one x y h e =
-      let step : (i : ℕ) → i < 1 → bit y i ≡ bit_xor (bit x i) (bit_xor (bit (history m y) (19 + i)) (bit (history m y) i)) = λ i l. one_bit m x y y i small l e in
-      let k : y < 2 = omega arith in
-      let f : m / 2 + y * 2 ^ 57 % 2 ^ 64 ≡ m / 2 + y * 2 ^ 57 = omega arith in (
-        sym (one_field y k) ∙ sym (word_out m y small x 1 step) ∙ ap (scrambled_bits (memory_in m)) (one_field x h),
-        ap memory_in f ∙ sym (word_after m y small x 1 step (m / 2 + y * 2 ^ 57) (λ j l. memory_1 m y j l)) ∙ ap (scrambler_after (memory_in m)) (one_field x h),
+  descrambled-word y d e =
+      let step : (i : ℕ) → i < 64 → bit d i ≡ bit_xor (bit y i) (bit_xor (bit (history m y) (19 + i)) (bit (history m y) i)) = λ i l. ap (λ (z : ℕ). bit z i) e ∙ back_bit m y i small l in (
+        word_gives what_came_in m y y d 64 small (λ i l. refl) step,
+        word_leaves what_came_in m y y d 64 small (λ i l. refl) step (y / 2 ^ 6) (λ k l. memory_64 m y k small l),
       )
 
-  pub descrambled_one : (y d : ℕ) → y < 2 → d ≡ bit_xor y (tail m) % 2 →
-      (d ∷ [] ≡ descrambled_bits (memory_in m) (y ∷ [])) × (memory_in (m / 2 + y * 2 ^ 57 % 2 ^ 64) ≡ descrambler_after (memory_in m) (y ∷ []))
-  descrambled_one y d h e =
-      let k : d < 2 = omega arith in
-      let f : m / 2 + y * 2 ^ 57 % 2 ^ 64 ≡ m / 2 + y * 2 ^ 57 = omega arith in (
-        sym (one_field d k) ∙ sym (word_back m y small 1 d (λ i l. one_bit m y d y i small l e)) ∙ ap (descrambled_bits (memory_in m)) (one_field y h),
-        ap memory_in f ∙ sym (word_heard m y small 1 (m / 2 + y * 2 ^ 57) (λ j l. memory_1 m y j l)) ∙ ap (descrambler_after (memory_in m)) (one_field y h),
+  -- one bit, where w is the bit that is remembered
+  pub passed_one : (kept : ℕ → ℕ → ℕ) (x y w : ℕ) → x < 2 → w < 2 → y ≡ bit_xor x (tail m) % 2 → ((a b : ℕ) → a ≡ x → b ≡ y → kept a b ≡ w) →
+      (y ∷ [] ≡ stream_bits kept (memory_in m) (x ∷ [])) × (memory_in (m / 2 + w * 2 ^ 57 % 2 ^ 64) ≡ stream_after kept (memory_in m) (x ∷ []))
+  passed_one kept x y w h k e remembers =
+      let low : (z i : ℕ) → z < 2 → i < 1 → bit z i ≡ z = λ z i b l. let i0 : i ≡ 0 = omega arith in rw i0 (omega arith) in
+      let s : y < 2 = omega arith in
+      let keeps : (i : ℕ) → i < 1 → kept (bit x i) (bit y i) ≡ bit w i = λ i l. remembers _ _ (low x i h l) (low y i s l) ∙ sym (low w i k l) in
+      let step : (i : ℕ) → i < 1 → bit y i ≡ bit_xor (bit x i) (bit_xor (bit (history m w) (19 + i)) (bit (history m w) i)) = λ i l. one_bit m x y w i small l e in
+      let f : m / 2 + w * 2 ^ 57 % 2 ^ 64 ≡ m / 2 + w * 2 ^ 57 = omega arith in (
+        sym (one_field y s) ∙ word_gives kept m w x y 1 small keeps step ∙ ap (stream_bits kept (memory_in m)) (one_field x h),
+        ap memory_in f ∙ word_leaves kept m w x y 1 small keeps step (m / 2 + w * 2 ^ 57) (λ j l. memory_1 m w j l) ∙ ap (stream_after kept (memory_in m)) (one_field x h),
       )

@@ -7,7 +7,7 @@ use Rattle.std.proofs.lemmas.List.{take_at, drop_at}
 use Rattle.std.proofs.lemmas.Bool.{cases_Bool, lt-ltb, le-ltb}
 use Rattle.bits.specs.Bits.{field, number}
 use Rattle.blocks.specs.Blocks.{good, is_control, second_bit}
-use Rattle.blocks.specs.Groups.{headers, payloads, all_good, some_control, first_control_place, without, group_bits, blocks_of, words}
+use Rattle.blocks.specs.Groups.{headers, payloads, all_good, some_control, first_control_place, without, group_bits, blocks_under, words}
 use Rattle.blocks.specs.declared.block.Block.{Block}
 use Rattle.blocks.specs.declared.block.Header.{Header}
 use Rattle.blocks.specs.declared.block.Header.TheVariants.{Zeros, Control, Data, Ones}
@@ -143,7 +143,7 @@ flag_bits (h ∷ hs) = field_cons (second_bit h) (number (map second_bit hs)) (l
 abbrev pub Joined : List Header → List ℕ → List Block → ℕ → Type 0
 Joined hs ps bs k = get_or bs k (record { header = Zeros; payload = 0 }) ≡ record { header = get_or hs k Zeros; payload = number (field (get_or ps k 0) 0 64) }
 
-pub joined_words : (hs : List Header) (ps : List ℕ) (bs : List Block) → length ps ≡ length hs → length bs ≡ length hs → ((k : ℕ) → k < length hs → Joined hs ps bs k) → bs ≡ blocks_of hs (words ps)
+pub joined_words : (hs : List Header) (ps : List ℕ) (bs : List Block) → length ps ≡ length hs → length bs ≡ length hs → ((k : ℕ) → k < length hs → Joined hs ps bs k) → bs ≡ blocks_under hs (words ps)
 joined_words [] ps [] m n f = refl
 joined_words [] ps (b ∷ bs) m n f = absurd (omega arith)
 joined_words (h ∷ hs) [] bs m n f = absurd (omega arith)
@@ -151,4 +151,4 @@ joined_words (h ∷ hs) (p ∷ ps) [] m n f = absurd (omega arith)
 joined_words (h ∷ hs) (p ∷ ps) (b ∷ bs) m n f =
     let l = length-field p 0 64 in
     ap₂ (λ (c : Block) (cs : List Block). c ∷ cs) (f 0 (omega arith)) (joined_words hs ps bs (omega arith) (omega arith) (λ k i. f (suc k) (omega arith)))
-    ∙ sym (ap₂ (λ (x y : List ℕ). record { header = h; payload = number x } ∷ blocks_of hs y) (take_at (field p 0 64) (words ps) 64 l) (drop_at (field p 0 64) (words ps) 64 l))
+    ∙ sym (ap₂ (λ (x y : List ℕ). record { header = h; payload = number x } ∷ blocks_under hs y) (take_at (field p 0 64) (words ps) 64 l) (drop_at (field p 0 64) (words ps) 64 l))

@@ -1,5 +1,5 @@
 -- Blocks: two header bits and 64 payload bits. Assumes nothing.
-use Rattle.std.specs.Prelude.{◌≡◌, ℕ, zero, suc, ◌+◌, ◌*◌, ◌<◌, Bool, true, false, cond, List, [], ◌∷◌, ◌++◌, take, drop, ◌==◌, Result, MatchResult, slice_index}
+use Rattle.std.specs.Prelude.{◌≡◌, ℕ, zero, suc, ◌+◌, ◌*◌, ◌<◌, Bool, true, false, if◌then◌else◌, List, [], ◌∷◌, ◌++◌, take, drop, ◌==◌, Result, MatchResult, slice_index}
 use Rattle.bits.specs.Bits.{field, number, octet_bits, octets}
 use Rattle.blocks.specs.declared.block.Header.{Header}
 use Rattle.blocks.specs.declared.block.Header.TheVariants.{Zeros, Control, Data, Ones}
@@ -40,7 +40,7 @@ abbrev pub kind_of : Header → ℕ
 kind_of h = first_bit h + 2 * second_bit h
 
 abbrev pub header_of : ℕ → Header
-header_of k = cond (k == 0) Zeros (cond (k == 1) Control (cond (k == 2) Data Ones))
+header_of k = if k == 0 then Zeros else if k == 1 then Control else if k == 2 then Data else Ones
 
 -- the result is the header with this kind, or an error with a kind that no header has
 abbrev pub Decodes : ℕ → Result Header UnknownKind → Type 0

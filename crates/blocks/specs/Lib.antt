@@ -6,6 +6,5 @@ pub mod Sound
 pub mod Records
 pub mod Walk
 pub mod Scrambled
-pub mod Joined
 pub mod Memories
 pub mod Taps

@@ -2,9 +2,9 @@
 use Rattle.std.specs.Prelude.{◌≡◌, ℕ, ◌^◌, ◌<◌, ◌≤◌, List, Ok, Err, Result}
 use Rattle.bits.specs.Bits.{field}
 use Rattle.blocks.specs.Scrambled.{memory_in}
-use Rattle.blocks.specs.declared.memory.Stream.{Stream}
-use Rattle.blocks.specs.declared.memory.Sent.{Sent}
-use Rattle.blocks.specs.declared.memory.Received.{Received}
+use Rattle.blocks.specs.declared.scramble.Stream.{Stream}
+use Rattle.blocks.specs.declared.scramble.Sent.{Sent}
+use Rattle.blocks.specs.declared.scramble.Received.{Received}
 use Rattle.blocks.specs.declared.refusal.Refusal.{Refusal}
 use Rattle.blocks.specs.declared.refusal.Refusal.TheVariants.{Start}
 

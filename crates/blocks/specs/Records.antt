@@ -1,5 +1,5 @@
 -- Records one after another in a buffer. Assumes nothing.
-use Rattle.std.specs.Prelude.{ℕ, zero, suc, ◌+◌, Bool, true, cond, List, [], ◌∷◌, length, take, drop, Some, None, Ok, Err, Option, Result, ◌==◌, nat_le}
+use Rattle.std.specs.Prelude.{ℕ, zero, suc, ◌+◌, Bool, true, if◌then◌else◌, List, [], ◌∷◌, length, take, drop, Some, None, Ok, Err, Option, Result, ◌==◌, nat_le}
 use Rattle.blocks.specs.declared.refusal.Refusal.{Refusal}
 use Rattle.blocks.specs.declared.refusal.Refusal.TheVariants.{Length, Kind}
 
@@ -12,18 +12,18 @@ pub data Item : Type 0 where
 
 -- kinds 0 to 3 are blocks, with a body of eight octets; 16 is the pair note, with one of three
 abbrev pub known : ℕ → Bool
-known k = cond (nat_le k 3) true (k == 16)
+known k = if nat_le k 3 then true else k == 16
 
 abbrev pub size_of : ℕ → ℕ
-size_of k = cond (k == 16) 3 8
+size_of k = if k == 16 then 3 else 8
 
 abbrev pub item_of : ℕ → List ℕ → Item
-item_of k body = cond (k == 16) (note_item body) (cond (k == 2) (data_item body) (cond (k == 1) (control_item body) (bad_item (k == 3) body)))
+item_of k body = if k == 16 then note_item body else if k == 2 then data_item body else if k == 1 then control_item body else bad_item (k == 3) body
 
 -- the record of index n, which begins at the front
 unfoldable pub look : ℕ → List ℕ → Result (Option (ℕ × Item)) Refusal
 look n [] = Ok None
-look n (k ∷ xs) = cond (known k) (cond (nat_le (size_of k) (length xs)) (Ok (Some (n, item_of k (take (size_of k) xs)))) (Err Length)) (Err (Kind n))
+look n (k ∷ xs) = if known k then (if nat_le (size_of k) (length xs) then Ok (Some (n, item_of k (take (size_of k) xs))) else Err Length) else Err (Kind n)
 
 -- what is left behind the first record, and behind n of them
 abbrev pub behind : List ℕ → List ℕ

@@ -1,54 +1,64 @@
 -- The scrambled stream and its reverse. Assumes nothing.
-use Rattle.std.specs.Prelude.{◌≡◌, ℕ, zero, suc, ◌+◌, ◌-◌, ◌≤◌, List, ◌++◌, length, bit_xor}
+use Rattle.std.specs.Prelude.{◌≡◌, ℕ, ◌-◌, ◌≤◌, List, [], ◌∷◌, ◌++◌, length, take, drop, bit_xor}
 use Rattle.bits.specs.Bits.{bit, table, nth}
 
--- The bit that went out k + 1 places before bit n of a stream xs; `past` has those before the first. Each bit goes out
--- xored with the output bits 39 and 58 before it.
-unfoldable pub before : (ℕ → ℕ) → (ℕ → ℕ) → ℕ → ℕ → ℕ
-before past xs zero k = past k
-before past xs (suc n) zero = bit_xor (xs n) (bit_xor (before past xs n 38) (before past xs n 57))
-before past xs (suc n) (suc k) = before past xs n k
+-- A memory is the last 58 bits of a stream, the newest first. This is what a bit gives: itself xored with those 39 and 58 before it.
+abbrev pub tapped : List ℕ → ℕ → ℕ
+tapped m x = bit_xor x (bit_xor (nth m 38) (nth m 57))
 
--- output bit n
-abbrev pub scrambled : (ℕ → ℕ) → (ℕ → ℕ) → ℕ → ℕ
-scrambled past xs n = before past xs (suc n) zero
+-- the memory with one bit more
+abbrev pub pushed : ℕ → List ℕ → List ℕ
+pushed b m = b ∷ take 57 m
 
--- The bit that was received k + 1 places before bit n.
-unfoldable pub received : (ℕ → ℕ) → (ℕ → ℕ) → ℕ → ℕ → ℕ
-received past ys zero k = past k
-received past ys (suc n) zero = ys n
-received past ys (suc n) (suc k) = received past ys n k
+-- What bits give one after another, and the memory that they leave. `kept` says which bit is remembered, by the one that came in
+-- and the one that it gave.
+unfoldable pub stream_bits : (ℕ → ℕ → ℕ) → List ℕ → List ℕ → List ℕ
+stream_bits kept m [] = []
+stream_bits kept m (x ∷ xs) = tapped m x ∷ stream_bits kept (pushed (kept x (tapped m x)) m) xs
 
--- reading back: each received bit xored with the received bits 39 and 58 before it
-abbrev pub descrambled : (ℕ → ℕ) → (ℕ → ℕ) → ℕ → ℕ
-descrambled past ys n = bit_xor (ys n) (bit_xor (received past ys n 38) (received past ys n 57))
+unfoldable pub stream_after : (ℕ → ℕ → ℕ) → List ℕ → List ℕ → List ℕ
+stream_after kept m [] = m
+stream_after kept m (x ∷ xs) = stream_after kept (pushed (kept x (tapped m x)) m) xs
 
--- A memory is the last 58 bits, the newest first. Bits xs on a memory m give these bits, and leave this memory.
-unfoldable pub scrambled_bits : List ℕ → List ℕ → List ℕ
-scrambled_bits m xs = table (length xs) (scrambled (nth m) (nth xs))
+abbrev pub what_came_in : ℕ → ℕ → ℕ
+what_came_in x y = x
 
-unfoldable pub scrambler_after : List ℕ → List ℕ → List ℕ
-scrambler_after m xs = table 58 (before (nth m) (nth xs) (length xs))
+abbrev pub what_went_out : ℕ → ℕ → ℕ
+what_went_out x y = y
 
-unfoldable pub descrambled_bits : List ℕ → List ℕ → List ℕ
-descrambled_bits m ys = table (length ys) (descrambled (nth m) (nth ys))
+-- a scrambler remembers what went out
+abbrev pub scrambled_bits : List ℕ → List ℕ → List ℕ
+scrambled_bits m xs = stream_bits what_went_out m xs
 
-unfoldable pub descrambler_after : List ℕ → List ℕ → List ℕ
-descrambler_after m ys = table 58 (received (nth m) (nth ys) (length ys))
+abbrev pub scrambler_after : List ℕ → List ℕ → List ℕ
+scrambler_after m xs = stream_after what_went_out m xs
+
+-- and its reverse what came in
+abbrev pub descrambled_bits : List ℕ → List ℕ → List ℕ
+descrambled_bits m ys = stream_bits what_came_in m ys
+
+abbrev pub descrambler_after : List ℕ → List ℕ → List ℕ
+descrambler_after m ys = stream_after what_came_in m ys
+
+-- the memory held as a number, the newest bit highest
+abbrev pub memory_in : ℕ → List ℕ
+memory_in x = table 58 (λ k. bit x (57 - k))
 
 -- Bits on a memory give `run`, and leave the memory `after`: those of a run in two parts are those of its parts, one after the other.
 pub record InParts (run after : List ℕ → List ℕ → List ℕ) : Type 0 where
   pub gives : (m xs ys : List ℕ) → run m (xs ++ ys) ≡ run m xs ++ run (after m xs) ys
   pub leaves : (m xs ys : List ℕ) → after m (xs ++ ys) ≡ after (after m xs) ys
 
--- the memory held as a number, the newest bit highest
-abbrev pub memory_in : ℕ → List ℕ
-memory_in x = table 58 (λ k. bit x (57 - k))
-
+-- The laws of the stream, of any lists as memories and as bits.
 pub record Scrambling : Type 0 where
-  -- reading back from an equal memory gives the stream
-  pub undone : (past xs : ℕ → ℕ) (n : ℕ) → descrambled past (scrambled past xs) n ≡ xs n
-  -- reading back from any memory gives it from the 59th bit on
-  pub settles : (past other xs : ℕ → ℕ) (n : ℕ) → 58 ≤ n → descrambled other (scrambled past xs) n ≡ xs n
-  -- what goes out of a stream goes out of its parts one after the other
-  pub joined : (past xs : ℕ → ℕ) (m n k : ℕ) → before past xs (m + n) k ≡ before (before past xs m) (λ i. xs (m + i)) n k
+  -- from an equal memory the reverse gives the bits back, and ends with the scrambler's memory
+  pub undone : (m xs : List ℕ) → descrambled_bits m (scrambled_bits m xs) ≡ xs
+  pub same_memory : (m xs : List ℕ) → descrambler_after m (scrambled_bits m xs) ≡ scrambler_after m xs
+  -- from any memory it gives them from the 59th on, and ends with the scrambler's memory behind 58 bits or more
+  pub settles : (m other xs : List ℕ) (n : ℕ) → 58 ≤ n → drop n (descrambled_bits other (scrambled_bits m xs)) ≡ drop n xs
+  pub follows : (m other xs : List ℕ) → 58 ≤ length xs → descrambler_after other (scrambled_bits m xs) ≡ scrambler_after m xs
+  -- whatever came in, 58 bits are all that it remembers
+  pub forgets : (m other ys : List ℕ) → 58 ≤ length ys → descrambler_after m ys ≡ descrambler_after other ys
+  -- both go in parts
+  pub out_in_parts : InParts scrambled_bits scrambler_after
+  pub back_in_parts : InParts descrambled_bits descrambler_after

@@ -1,5 +1,5 @@
 -- Sound groups, and what comes back of any group. Assumes nothing.
-use Rattle.std.specs.Prelude.{◌≡◌, ℕ, zero, suc, ◌+◌, ◌*◌, ◌/◌, ◌%◌, ◌^◌, ◌<◌, Bool, true, false, cond, List, [], ◌∷◌, length, Some, None, Option, ◌==◌, slice_set}
+use Rattle.std.specs.Prelude.{◌≡◌, ℕ, zero, suc, ◌+◌, ◌*◌, ◌/◌, ◌%◌, ◌^◌, ◌<◌, Bool, true, false, if◌then◌else◌, List, [], ◌∷◌, length, Some, None, Option, ◌==◌, slice_set}
 use Rattle.blocks.specs.Groups.{headers, all_good, some_control, first_control_place, types, high_digit, group_bits, read_back}
 use Rattle.blocks.specs.declared.block.Header.{Header}
 use Rattle.blocks.specs.declared.block.Header.TheVariants.{Zeros, Ones}
@@ -7,7 +7,7 @@ use Rattle.blocks.specs.declared.block.Block.{Block}
 
 abbrev pub among : List ℕ → ℕ → Bool
 among [] x = false
-among (t ∷ ts) x = cond (t == x) true (among ts x)
+among (t ∷ ts) x = if t == x then true else among ts x
 
 unfoldable pub is_type : ℕ → Bool
 is_type x = among types x
@@ -21,7 +21,7 @@ payload_at (suc c) (b ∷ bs) = payload_at c bs
 -- all headers are good, and the first control block, if any, has a listed type
 unfoldable pub sound : List Block → Bool
 sound bs =
-    cond (all_good (headers bs)) (cond (some_control (headers bs)) (is_type (payload_at (first_control_place (headers bs)) bs % 256)) true) false
+    if all_good (headers bs) then (if some_control (headers bs) then is_type (payload_at (first_control_place (headers bs)) bs % 256) else true) else false
 
 -- x with d as its bits 4 to 7
 abbrev pub retyped : ℕ → ℕ → ℕ
@@ -47,9 +47,9 @@ control_comes c bs None = with_headers (slice_set (headers bs) c Ones) (put_digi
 -- what comes back of four blocks that were written as a group
 unfoldable pub comes_back : List Block → List Block
 comes_back bs =
-    cond (all_good (headers bs))
-    (cond (some_control (headers bs)) (control_comes (first_control_place (headers bs)) bs (high_digit (payload_at (first_control_place (headers bs)) bs % 16))) bs)
-    (with_headers (Zeros ∷ Ones ∷ Zeros ∷ Ones ∷ []) (put_digit 0 0 bs))
+    if all_good (headers bs)
+    then (if some_control (headers bs) then control_comes (first_control_place (headers bs)) bs (high_digit (payload_at (first_control_place (headers bs)) bs % 16)) else bs)
+    else with_headers (Zeros ∷ Ones ∷ Zeros ∷ Ones ∷ []) (put_digit 0 0 bs)
 
 -- payloads have 64 bits
 abbrev pub Payloads : List Block → Type 0

@@ -1,5 +1,5 @@
 -- What a reader of records hands out, and that a walk visits every record. Assumes nothing.
-use Rattle.std.specs.Prelude.{◌≡◌, ℕ, true, false, cond, MatchResult, List, [], ◌∷◌, ◌++◌, length, Some, None, Ok, Err, Option, Result}
+use Rattle.std.specs.Prelude.{◌≡◌, ℕ, true, false, if◌then◌else◌, MatchResult, List, [], ◌∷◌, ◌++◌, length, Some, None, Ok, Err, Option, Result}
 use Rattle.blocks.specs.declared.refusal.Refusal.{Refusal}
 use Rattle.blocks.specs.declared.record.Record.{Record}
 use Rattle.blocks.specs.declared.record.Record.TheVariants.{Data, Control, BadHeader, Note}
@@ -36,7 +36,7 @@ shown (Err e) = Err e
 abbrev pub bytes_of : Item → List ℕ
 bytes_of (data_item body) = 2 ∷ body
 bytes_of (control_item body) = 1 ∷ body
-bytes_of (bad_item ones body) = cond ones 3 0 ∷ body
+bytes_of (bad_item ones body) = (if ones then 3 else 0) ∷ body
 bytes_of (note_item body) = 16 ∷ body
 
 unfoldable pub bytes : List Item → List ℕ

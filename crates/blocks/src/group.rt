@@ -2,7 +2,7 @@
 ghost use Rattle.std.specs.Prelude.{◌≡◌, ◌+◌, ◌*◌, ◌/◌, ◌%◌, ◌^◌, ◌<◌, ◌++◌, map, drop, position};
 ghost use Rattle.bits.specs.Bits.{field, number};
 ghost use Rattle.blocks.specs.Blocks.{is_control, second_bit};
-ghost use Rattle.blocks.specs.Groups.{headers, payloads, all_good, without, with_digit_at, high_digit, words, bits_of, group_bits, read_back, flagged, blocks_of};
+ghost use Rattle.blocks.specs.Groups.{headers, payloads, all_good, without, with_digit_at, high_digit, words, bits_of, group_bits, read_back, flagged, blocks_under};
 ghost use Rattle.blocks.specs.Sound.{is_type, sound};
 
 use crate::block::{Block, Header};
@@ -129,8 +129,7 @@ fn has_type(payload: u64) -> bool
     TYPES.contains(&(payload % 256))
 }
 
-// Whether a group of these blocks comes back as it was: all headers are good, and the first control block, if any, has a
-// listed type.
+// Whether a group of these blocks is sound: all headers are good, and the first control block, if any, has a listed type.
 pub fn are_sound(blocks: [Block; 4]) -> bool
     ensures { result ≡ sound blocks }
 {
@@ -160,7 +159,7 @@ fn block(header: Header, payload: u64) -> Block
 }
 
 fn joined(headers: [Header; 4], payloads: [u64; 4]) -> [Block; 4]
-    ensures { result ≡ blocks_of headers (words payloads) }
+    ensures { result ≡ blocks_under headers (words payloads) }
 {
     array::from_fn(|i| block(headers[i], payloads[i]))
 }

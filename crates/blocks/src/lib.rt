@@ -4,7 +4,6 @@
 mod block;
 mod calls;
 mod group;
-mod memory;
 mod octets;
 mod reader;
 mod record;
@@ -15,8 +14,8 @@ mod walk;
 pub use block::{Block, Header, UnknownKind};
 pub use calls::{group_of, is_sound, read_group, write_group};
 pub use group::{Group, are_sound};
-pub use memory::{Descrambler, Scrambler};
 pub use octets::first_bad_kind;
 pub use reader::Reader;
 pub use record::{BadHeader, Record};
 pub use refusal::Refusal;
+pub use scramble::{Descrambler, Scrambler};

@@ -1,16 +1,52 @@
 // Scrambling groups, and reading them back. The stream never restarts: the memory goes on from group to group.
-ghost use Rattle.std.specs.Prelude.{◌≡◌, ◌%◌, ℕ, ◌^◌, ◌<◌, List, [], ◌∷◌};
+ghost use Rattle.std.specs.Prelude.{◌≡◌, ◌%◌, ℕ, [], ◌∷◌};
 ghost use Rattle.bits.specs.Bits.{field};
 ghost use Rattle.blocks.specs.Groups.{one_if, bits_of};
 ghost use Rattle.blocks.specs.Memories.{memory_of, out_memory, in_memory, Started};
-ghost use Rattle.blocks.specs.Scrambled.{memory_in, scrambled_bits, scrambler_after, descrambled_bits, descrambler_after, InParts, Scrambling};
-ghost use Rattle.blocks.specs.Joined.{scrambled_in_parts, descrambled_in_parts};
+ghost use Rattle.blocks.specs.Scrambled.{memory_in, stream_bits, stream_after, what_came_in, what_went_out, scrambled_bits, scrambler_after, descrambled_bits, descrambler_after, Scrambling};
 ghost use Rattle.blocks.specs.Taps.{tail, taps};
 
 use crate::group::Group;
-use crate::memory::{Memory, Received, Sent, Stream};
 use crate::refusal::Refusal;
-use std::marker::PhantomData;
+use std::marker::{Model, PhantomData};
+
+// The last 58 bits of a scrambled stream, the newest highest. Nothing here is `Copy` or `Clone`: a copy would restart the
+// stream in silence.
+#[derive(Drop)]
+pub struct Memory {
+    bits: u64,
+}
+
+impl Model for Memory {
+    ghost use Rattle.std.specs.Prelude.{ℕ, ◌^◌, ◌<◌};
+
+    ghost Value = { ℕ };
+
+    ghost view = { λ m. m.bits };
+
+    ghost invariant = { λ m. m.bits < 2 ^ 58 };
+
+    ghost inverse = { λ n. record { bits = n } };
+}
+
+// A stream in direction D: its memory has what went out, or what was received.
+#[derive(Drop)]
+pub struct Stream<D> {
+    memory: Memory,
+    direction: PhantomData<D>,
+}
+
+// Bits are scrambled and go out.
+#[derive(Drop)]
+pub struct Sent;
+
+// Scrambled bits are received and read back.
+#[derive(Drop)]
+pub struct Received;
+
+pub type Scrambler = Stream<Sent>;
+
+pub type Descrambler = Stream<Received>;
 
 const START_LIMIT: u64 = 1 << 58;
 
@@ -50,30 +86,22 @@ fn is_odd(x: u64) -> bool
     x % 2 == 1
 }
 
-// A direction of the stream: what it does to the next bits.
+// A direction of the stream: what the next bits give, and which of them are remembered.
 pub trait Direction {
-    // What bits give on a memory of 58 bits, and the memory that they leave.
-    ghost run: { List ℕ → List ℕ → List ℕ };
-
-    ghost after: { List ℕ → List ℕ → List ℕ };
+    // The bit to remember, by the one that came in and the one that it gave.
+    ghost kept: { ℕ → ℕ → ℕ };
 
     fn bit(memory: &mut Memory, x: bool) -> bool
-        ensures gives { one_if result ∷ [] ≡ run (memory_in memory.old) (one_if x ∷ []) }
-        ensures leaves { memory_in memory.new ≡ after (memory_in memory.old) (one_if x ∷ []) };
+        ensures gives { one_if result ∷ [] ≡ stream_bits kept (memory_in memory.old) (one_if x ∷ []) }
+        ensures leaves { memory_in memory.new ≡ stream_after kept (memory_in memory.old) (one_if x ∷ []) };
 
     fn word(memory: &mut Memory, x: u64) -> u64
-        ensures gives { field result 0 64 ≡ run (memory_in memory.old) (field x 0 64) }
-        ensures leaves { memory_in memory.new ≡ after (memory_in memory.old) (field x 0 64) };
-
-    ghost in_parts: { InParts run after };
+        ensures gives { field result 0 64 ≡ stream_bits kept (memory_in memory.old) (field x 0 64) }
+        ensures leaves { memory_in memory.new ≡ stream_after kept (memory_in memory.old) (field x 0 64) };
 }
 
 impl Direction for Sent {
-    ghost run = { scrambled_bits };
-
-    ghost after = { scrambler_after };
-
-    ghost in_parts = { scrambled_in_parts };
+    ghost kept = { what_went_out };
 
     fn bit(memory: &mut Memory, x: bool) -> bool {
         let bits = memory.bits;
@@ -90,11 +118,7 @@ impl Direction for Sent {
 }
 
 impl Direction for Received {
-    ghost run = { descrambled_bits };
-
-    ghost after = { descrambler_after };
-
-    ghost in_parts = { descrambled_in_parts };
+    ghost kept = { what_came_in };
 
     fn bit(memory: &mut Memory, y: bool) -> bool {
         let bits = memory.bits;
@@ -112,8 +136,8 @@ impl Direction for Received {
 
 // The 257 bits of a group, one after another.
 fn pass<D: Direction>(memory: &mut Memory, group: Group) -> Group
-    ensures gives { bits_of result ≡ D.run (memory_in memory.old) (bits_of group) }
-    ensures leaves { memory_in memory.new ≡ D.after (memory_in memory.old) (bits_of group) }
+    ensures gives { bits_of result ≡ stream_bits D.kept (memory_in memory.old) (bits_of group) }
+    ensures leaves { memory_in memory.new ≡ stream_after D.kept (memory_in memory.old) (bits_of group) }
 {
     let first = D::bit(memory, group.first);
     let mut parts = group.parts;

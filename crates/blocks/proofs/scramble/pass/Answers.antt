@@ -4,8 +4,9 @@ use Rattle.std.proofs.Math.ListN.{length-set}
 use Rattle.std.proofs.lemmas.Grind.{common_steps}
 use Rattle.bits.specs.Bits.{field}
 use Rattle.blocks.specs.Groups.{one_if, words}
-use Rattle.blocks.specs.Scrambled.{memory_in}
+use Rattle.blocks.specs.Scrambled.{memory_in, stream_bits, stream_after}
 use Rattle.blocks.proofs.Passing.{one_word}
+use Rattle.blocks.proofs.Scrambles.{in_parts}
 use Rattle.blocks.proofs.scramble.pass.Goals as goal
 
 pub loop-x-init : goal.loop-x-init
@@ -17,8 +18,8 @@ loop-x-init g c = record {
 
 pub loop-x-preserved : goal.loop-x-preserved
 loop-x-preserved g c =
-    let S = g.D.Direction.run in
-    let T = g.D.Direction.after in
+    let S = stream_bits g.D.Direction.kept in
+    let T = stream_after g.D.Direction.kept in
     let xs : List ℕ = c.args.group.parts in
     let ys : List ℕ = c.loop-x.x-items in
     let n = c.loop-x.x-index in
@@ -26,7 +27,7 @@ loop-x-preserved g c =
     let m : length xs ≡ 4 = search rules in
     let same : get_or ys n 0 ≡ get_or xs n 0 = inv.rest n (omega arith) in
     record {
-      passed = one_word S T g.met.D.Direction.in_parts (memory_in c.args.memory.now) _ _ xs ys _ _ n c.word.result (omega arith) (omega (arith, inv.size)) inv.passed
+      passed = one_word S T (in_parts g.D.Direction.kept) (memory_in c.args.memory.now) _ _ xs ys _ _ n c.word.result (omega arith) (omega (arith, inv.size)) inv.passed
           (subst (λ (x : ℕ). field c.word.result 0 64 ≡ S (memory_in c.loop-x.memory) (field x 0 64)) same c.word.ensures.gives)
           (subst (λ (x : ℕ). memory_in c.word.new.memory ≡ T (memory_in c.loop-x.memory) (field x 0 64)) same c.word.ensures.leaves);
       size = omega (arith, length-set {A = ℕ}, inv.size);
@@ -35,8 +36,8 @@ loop-x-preserved g c =
 
 pub returns : goal.returns
 returns g c =
-    let S = g.D.Direction.run in
-    let T = g.D.Direction.after in
+    let S = stream_bits g.D.Direction.kept in
+    let T = stream_after g.D.Direction.kept in
     let xs : List ℕ = c.args.group.parts in
     let ys : List ℕ = c.loop-x.x-items in
     let p = c.loop-x.invariant.passed in

@@ -1,7 +1,7 @@
 use Rattle.std.proofs.Common.{◌≡◌, ℕ, ◌<◌, Bool, List, [], ◌∷◌, map, length, get_or, drop, set, position, MatchOption, sym, ap, ◌∙◌, rules, arith}
 use Rattle.bits.specs.Bits.{field}
 use Rattle.blocks.specs.Blocks.{is_control}
-use Rattle.blocks.specs.Groups.{words, one_if, read_back, blocks_of, flagged, control_back, high_digit}
+use Rattle.blocks.specs.Groups.{words, one_if, read_back, blocks_under, flagged, control_back, high_digit}
 use Rattle.blocks.specs.declared.block.Header.{Header}
 use Rattle.blocks.specs.declared.block.Header.TheVariants.{Zeros, Ones}
 use Rattle.blocks.proofs.Parts.{digit_at}
@@ -39,7 +39,7 @@ returns-after-high_digit c =
       | in-Some-high_digit w ↦ rw w.in-Some-high_digit.is (w.headers-is ∙ c.headers-headers.ensures, w.digit-is)
       | in-None-high_digit w ↦ rw w.in-None-high_digit.is (w.headers-is ∙ ap (λ (hs : List Header). set hs at Ones) c.headers-headers.ensures, w.digit-is)
     ] in
-    c.joined-in-Some.ensures ∙ ap (blocks_of c.match-high_digit.headers) c.with_digit.ensures
+    c.joined-in-Some.ensures ∙ ap (blocks_under c.match-high_digit.headers) c.with_digit.ensures
     ∙ control_put fs at c.match-high_digit.digit rest c.match-high_digit.headers c.high_digit.result put
     ∙ ap (control_back fs at rest) (c.high_digit.ensures ∙ ap high_digit (digit_at at ps l))
     ∙ control_read ps (omega arith) at p.0 p.1
@@ -50,6 +50,6 @@ returns-in-None c =
     let ps : List ℕ = c.args.self.parts in
     let n : length ps ≡ 4 = search rules in
     let f = none_found _ (sym c.in-None.is ∙ c.first_control.ensures ∙ ap (position is_control) c.headers-headers.ensures) in
-    c.joined-in-None.ensures ∙ ap (blocks_of (Zeros ∷ Ones ∷ Zeros ∷ Ones ∷ [])) c.with_digit-in-None.ensures
+    c.joined-in-None.ensures ∙ ap (blocks_under (Zeros ∷ Ones ∷ Zeros ∷ Ones ∷ [])) c.with_digit-in-None.ensures
     ∙ bad_read ps (omega arith) f
     ∙ ap (λ (f : Bool). read_back (one_if f ∷ words ps)) (sym c.if-first.false)
