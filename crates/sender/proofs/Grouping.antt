@@ -1,25 +1,21 @@
 -- The groups of a pair's records, scrambled one after another.
-use Rattle.std.proofs.Common.{◌≡◌, ℕ, ◌+◌, ◌-◌, ◌*◌, ◌/◌, ◌<◌, ◌≤◌, ltb, List, [], ◌++◌, length, get_or, take, drop, None, Ok, Err, Result, sym, refl, ap, ◌∙◌, subst, ap₂, append_assoc, append-nil, add-one, arith, rules, length-append, length-drop}
+use Rattle.std.proofs.Common.{◌≡◌, ℕ, ◌+◌, ◌*◌, ◌/◌, ◌<◌, ◌≤◌, ltb, List, ◌++◌, length, get_or, take, drop, None, Ok, Err, Result, sym, refl, ap, ◌∙◌, subst, ap₂, append-nil, add-one, arith, rules, length-append, length-drop}
 use Rattle.std.specs.Result.{IsOk}
 use Rattle.std.proofs.lemmas.List.{take_at, drop_at, drop-drop, length-take-le, take-append-drop, get_or-take, get_or-drop}
 use Rattle.std.proofs.lemmas.Bool.{eq-eqb}
-use Rattle.bits.specs.Bits.{bit, nth}
 use Rattle.blocks.specs.Blocks.{blocks_in}
 use Rattle.bits.specs.Lowest.{lowest}
 use Rattle.blocks.specs.Calls.{kind_above_3, begun, bad_kind, four_refused, Grouped}
 use Rattle.blocks.specs.Groups.{bits_of, group_bits}
-use Rattle.blocks.specs.Memories.{out_memory}
-use Rattle.blocks.specs.Scrambled.{before, memory_in, scrambled_bits, scrambler_after}
-use Rattle.blocks.specs.declared.memory.Stream.{Stream}
-use Rattle.blocks.specs.declared.memory.Sent.{Sent}
+use Rattle.blocks.specs.Scrambled.{scrambled_bits, scrambler_after}
 use Rattle.blocks.specs.declared.block.Block.{Block}
 use Rattle.blocks.specs.declared.group.Group.{Group}
 use Rattle.blocks.specs.declared.refusal.Refusal.{Refusal}
 use Rattle.bits.proofs.Lowest.{none_below, lowest_none}
-use Rattle.bits.proofs.Tables.{table_same, nth-table}
 use Rattle.blocks.proofs.Scrambles.{scrambled-append, after-append}
-use Rattle.sender.specs.Messages.{group_at, group_stream}
-use Rattle.sender.proofs.Streams.{blocks_append}
+use Rattle.pairs.specs.Messages.{message_with, group_at, group_stream}
+use Rattle.pairs.proofs.Messaged.{put_next}
+use Rattle.pairs.proofs.Streams.{blocks_append}
 
 -- the 36 bytes of a group among those of all groups
 module _ (records : List ℕ) (g : ℕ) (room : 36 * g + 36 ≤ length records) where
@@ -67,14 +63,6 @@ grouped_ok xs (Err e) h k = let z : ◌≡◌ {A = ℕ} 0 1 = cc in absurd (omeg
 pub grouped_bits : (xs : List ℕ) (r : Result Group Refusal) (g : Group) → r ≡ Ok g → Grouped xs r → bits_of g ≡ group_bits (blocks_in 4 xs)
 grouped_bits xs r g e h = let k : Grouped xs (Ok g) = subst (Grouped xs) e h in k.1
 
--- a scrambler on whose memory nothing was scrambled
-number_kept : (x : ℕ) → memory_in x ≡ scrambler_after (memory_in x) []
-unfolding scrambler_after before
-number_kept x = table_same 58 (λ k. bit x (57 - k)) (nth (memory_in x)) (λ k h. sym (nth-table 58 (λ j. bit x (57 - j)) k h))
-
-pub memory_kept : (s : Stream Sent) → out_memory s ≡ scrambler_after (out_memory s) []
-memory_kept s = number_kept s.memory
-
 -- one group more
 module _ (bs : List Block) (g : ℕ) (m memory group out : List ℕ) (known : memory ≡ scrambler_after m (group_stream bs g)) (is_group : group ≡ group_bits (group_at bs g)) where
   pub memory_more : (new : List ℕ) → new ≡ scrambler_after memory group → new ≡ scrambler_after m (group_stream bs (g + 1))
@@ -83,12 +71,11 @@ module _ (bs : List Block) (g : ℕ) (m memory group out : List ℕ) (known : me
       e ∙ ap₂ scrambler_after known is_group ∙ sym (after-append m (group_stream bs g) (group_bits (group_at bs g)))
       ∙ ap (λ (n : ℕ). scrambler_after m (group_stream bs n)) (sym (add-one g))
 
-  pub group_more : (entry bits new : List ℕ) → out ≡ scrambled_bits memory group → bits ≡ entry ++ scrambled_bits m (group_stream bs g) → new ≡ bits ++ out →
-      new ≡ entry ++ scrambled_bits m (group_stream bs (g + 1))
+  pub group_more : (entry bits new : List ℕ) → out ≡ scrambled_bits memory group → bits ≡ message_with entry (scrambled_bits m (group_stream bs g)) → new ≡ message_with bits out →
+      new ≡ message_with entry (scrambled_bits m (group_stream bs (g + 1)))
   unfolding group_stream
   group_more entry bits new e inv f =
       let s : List ℕ = scrambled_bits m (group_stream bs g) in
-      let more : s ++ out ≡ scrambled_bits m (group_stream bs (g + 1)) =
-      ap (λ (o : List ℕ). s ++ o) (e ∙ ap₂ scrambled_bits known is_group) ∙ sym (scrambled-append m (group_stream bs g) (group_bits (group_at bs g)))
-      ∙ ap (λ (j : ℕ). scrambled_bits m (group_stream bs j)) (sym (add-one g)) in
-      f ∙ ap (λ (bs : List ℕ). bs ++ out) inv ∙ append_assoc entry s out ∙ ap (λ (o : List ℕ). entry ++ o) more
+      put_next entry s out inv f
+      (ap (λ (o : List ℕ). s ++ o) (e ∙ ap₂ scrambled_bits known is_group) ∙ sym (scrambled-append m (group_stream bs g) (group_bits (group_at bs g)))
+      ∙ ap (λ (j : ℕ). scrambled_bits m (group_stream bs j)) (sym (add-one g)))

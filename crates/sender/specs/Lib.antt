@@ -1,10 +1,6 @@
-pub mod Messages
-pub mod Strips
-pub mod Packing
 pub mod Refusals
-pub mod Lines
+pub mod States
 pub mod View
-pub mod Places
-pub mod Returns
 pub mod Joins
 pub mod Laws
+pub mod HandCases

@@ -1,0 +1,9 @@
+pub mod Symbols
+pub mod Messaged
+pub mod Coded
+pub mod Opened
+pub mod Packs
+pub mod Placed
+pub mod Streams
+pub mod Leading
+pub mod WaysBack

@@ -1,0 +1,28 @@
+use Rattle.std.proofs.Common.{ℕ, ◌≤◌, List, ap, ◌∙◌, arith}
+use Rattle.bits.specs.Bits.{field}
+use Rattle.pairs.specs.Messages.{message_with}
+use Rattle.pairs.proofs.Messaged.{filled_view, filled_binary, filled_zero}
+use Rattle.pairs.proofs.message.Message.push_bits.Goals as goal
+
+pub invariant_of-self : goal.invariant_of-self
+invariant_of-self c =
+    let n : ℕ = c.self.inside.len in
+    let end : ℕ = c.min-end.result in
+    let begins : n ≤ end = omega (arith, c.min-end.ensures, c.self.invariant.0) in
+    let ends : end ≤ 10280 = omega (arith, c.min-end.ensures) in (
+      ends,
+      (
+        filled_binary n end c.args.n c.args.x c.self.inside.bits c.put_bits.new.bits c.self.told begins ends c.put_bits.ensures c.self.invariant.1.0,
+        filled_zero n end c.args.n c.args.x c.self.inside.bits c.put_bits.new.bits c.self.told begins ends c.put_bits.ensures c.self.invariant.1.1,
+      ),
+    )
+
+pub returns : goal.returns
+returns c =
+    let n : ℕ = c.self.inside.len in
+    let end : ℕ = c.min-end.result in
+    let begins : n ≤ end = omega (arith, c.min-end.ensures, c.self.invariant.0) in
+    let ends : end ≤ 10280 = omega (arith, c.min-end.ensures) in
+    filled_view n end c.args.n c.args.x c.self.inside.bits c.put_bits.new.bits c.self.told begins ends c.put_bits.ensures
+    (omega (arith, c.min-end.ensures)) (λ l. omega (arith, c.min-end.ensures))
+    ∙ ap (λ (bs : List ℕ). message_with bs (field c.args.x 0 c.args.n)) c.self.view_is
