@@ -3,7 +3,7 @@ use Rattle.std.proofs.Common.{refl}
 use Rattle.bits.specs.Bits.{field, number, octet_bits, table}
 use Rattle.blocks.specs.Groups.{group_bits, read_back, flags_back, control_back, high_digit, types}
 use Rattle.blocks.specs.Scrambled.{stream_bits}
-use Rattle.gf1024.specs.Product.{times, product, step}
+use Rattle.polynomials.specs.Product.{times, product, step}
 use Rattle.lanes.specs.Markers.{wrong, symbol_in, marker_bits, marker_at}
 use Rattle.lanes.specs.Pads.{pad_before}
 use Rattle.sender.specs.HandCases.{HandChecked}

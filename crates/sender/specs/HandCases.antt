@@ -7,7 +7,7 @@ use Rattle.blocks.specs.Sound.{among, payload_at}
 use Rattle.blocks.specs.declared.block.Block.{Block}
 use Rattle.blocks.specs.declared.block.Header.{Header}
 use Rattle.blocks.specs.declared.block.Header.TheVariants.{Control, Data}
-use Rattle.gf1024.specs.Product.{times}
+use Rattle.polynomials.specs.Product.{times}
 use Rattle.lanes.specs.Letters.{layout_200, layout_400}
 use Rattle.lanes.specs.Markers.{symbol_in, marker_bits, nibble_of, wrong, own}
 use Rattle.lanes.specs.Pads.{pad_bit}
