@@ -1,0 +1,3 @@
+pub mod Printing
+pub mod Records
+pub mod Texts

@@ -1,0 +1,3 @@
+pub mod Groups
+pub mod Lines
+pub mod Streams
