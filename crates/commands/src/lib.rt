@@ -4,5 +4,9 @@
 mod groups;
 mod line;
 mod streams;
+mod text;
 
 pub use groups::print_groups;
+pub use text::{
+    Expected, TextError, WrongLine, print_records, print_text, records_of_text, text_of_records,
+};
