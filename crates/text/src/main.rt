@@ -14,7 +14,10 @@ fn wants_binary(rt: &HostRuntime) -> anyhow::Result<bool> {
     let binary = match words.next() {
         None => false,
         Some(word) => {
-            ensure!(word == "--binary", "{word:?} is no option; {USAGE}");
+            ensure!(
+                word.as_str() == "--binary",
+                "{word:?} is no option; {USAGE}"
+            );
             true
         }
     };
