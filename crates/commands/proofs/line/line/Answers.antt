@@ -1,7 +1,7 @@
 use Rattle.std.proofs.Common.{◌≡◌, ℕ, List, [], ◌∷◌, ◌++◌, get_or, set, ap, ◌∙◌, arith, rules}
 use Rattle.hex.specs.Hex.{encode_lower}
-use Rattle.groups.proofs.Texts.{line_text}
-use Rattle.groups.proofs.line.line.Goals as goal
+use Rattle.commands.proofs.Texts.{line_text}
+use Rattle.commands.proofs.line.line.Goals as goal
 
 pub returns : goal.returns
 returns c =

@@ -1,0 +1,5 @@
+pub mod Listing
+pub mod Printing
+pub mod Records
+pub mod TextLines
+pub mod Texts

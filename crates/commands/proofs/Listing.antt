@@ -1,0 +1,64 @@
+-- A walk over a buffer, a line a record.
+use Rattle.std.proofs.Common.{◌≡◌, ℕ, zero, suc, ◌+◌, ◌<◌, ◌≤◌, true, false, List, [], ◌∷◌, ◌++◌, length, drop, length-drop, append_assoc, append-nil, add-one, ap, ◌∙◌, sym, refl, inl, inr, Option, None, Some, Ok, Err, Result, arith}
+use Rattle.std.proofs.lemmas.Bool.{cases_Bool}
+use Rattle.blocks.specs.declared.refusal.Refusal.{Refusal}
+use Rattle.blocks.specs.Records.{Item, look, rest_at, behind, known, size_of}
+use Rattle.blocks.specs.Refusals.{text_of}
+use Rattle.commands.specs.Text.{item_line, lines_from, refusal_from, then_lines, then_refusal, listed, listing_refusal}
+
+pub shorter : (n : ℕ) (xs : List ℕ) (r : ℕ × Item) → look n xs ≡ Ok (Some r) → length (behind xs) < length xs
+unfolding look
+shorter n [] r h = absurd cc
+shorter n (k ∷ xs) r h = omega (arith, length-drop (size_of k) xs)
+
+pub fewer : (xs ys : List ℕ) (n m : ℕ) (r : ℕ × Item) → ys ≡ xs → m ≡ n + 1 → look n (rest_at xs n) ≡ Ok (Some r) → length (rest_at ys m) < length (rest_at xs n)
+unfolding rest_at
+fewer xs ys n m r same next found = rw (same, next, add-one) (shorter n (rest_at xs n) r found)
+
+-- so many records of xs are in the text, and what m more bring is left
+pub record Listed (xs text : List ℕ) (n : ℕ) : Type 0 where
+  pub most : ℕ
+  pub enough : length (rest_at xs n) < most
+  pub lines : listed xs ≡ text ++ lines_from most n (rest_at xs n)
+  pub why : listing_refusal xs ≡ refusal_from most n (rest_at xs n)
+
+pub listed_first : (xs : List ℕ) → Listed xs [] 0
+unfolding rest_at
+listed_first xs = record { most = suc (length xs); enough = omega arith; lines = refl; why = refl }
+
+module _ (xs text : List ℕ) (n : ℕ) where
+  next : (m : ℕ) (r : ℕ × Item) → look n (rest_at xs n) ≡ Ok (Some r) → length (rest_at xs n) < m → listed xs ≡ text ++ lines_from m n (rest_at xs n)
+      → listing_refusal xs ≡ refusal_from m n (rest_at xs n) → Listed xs (text ++ item_line r.1) (suc n)
+  unfolding lines_from refusal_from rest_at
+  next zero r e l p q = absurd (omega arith)
+  next (suc m) r e l p q =
+      let less = shorter n (rest_at xs n) r e in
+      record {
+          most = m;
+          enough = omega arith;
+          lines = p ∙ ap (λ o. text ++ then_lines o (lines_from m (suc n) (behind (rest_at xs n)))) e ∙ sym (append_assoc text (item_line r.1) _);
+          why = q ∙ ap (λ o. then_refusal o (refusal_from m (suc n) (behind (rest_at xs n)))) e
+      }
+
+  pub listed_next : (r : ℕ × Item) → Listed xs text n → look n (rest_at xs n) ≡ Ok (Some r) → Listed xs (text ++ item_line r.1) (n + 1)
+  listed_next r h e = rw add-one (next h.most r e h.enough h.lines h.why)
+
+  at_end : (m : ℕ) → look n (rest_at xs n) ≡ Ok None → length (rest_at xs n) < m → listed xs ≡ text ++ lines_from m n (rest_at xs n)
+      → listing_refusal xs ≡ refusal_from m n (rest_at xs n) → (text ≡ listed xs) × (None ≡ listing_refusal xs)
+  unfolding lines_from refusal_from
+  at_end zero e l p q = absurd (omega arith)
+  at_end (suc m) e l p q =
+      (sym (p ∙ ap (λ o. text ++ then_lines o (lines_from m (suc n) (behind (rest_at xs n)))) e ∙ append-nil text), sym (q ∙ ap (λ o. then_refusal o (refusal_from m (suc n) (behind (rest_at xs n)))) e))
+
+  pub listed_end : Listed xs text n → look n (rest_at xs n) ≡ Ok None → (text ≡ listed xs) × (None ≡ listing_refusal xs)
+  listed_end h e = at_end h.most e h.enough h.lines h.why
+
+  at_refusal : (m : ℕ) (why : Refusal) → look n (rest_at xs n) ≡ Err why → length (rest_at xs n) < m → listed xs ≡ text ++ lines_from m n (rest_at xs n)
+      → listing_refusal xs ≡ refusal_from m n (rest_at xs n) → (text ++ (text_of why ++ 10 ∷ []) ≡ listed xs) × (Some why ≡ listing_refusal xs)
+  unfolding lines_from refusal_from
+  at_refusal zero why e l p q = absurd (omega arith)
+  at_refusal (suc m) why e l p q =
+      (sym (p ∙ ap (λ o. text ++ then_lines o (lines_from m (suc n) (behind (rest_at xs n)))) e), sym (q ∙ ap (λ o. then_refusal o (refusal_from m (suc n) (behind (rest_at xs n)))) e))
+
+  pub listed_refused : (why : Refusal) → Listed xs text n → look n (rest_at xs n) ≡ Err why → (text ++ (text_of why ++ 10 ∷ []) ≡ listed xs) × (Some why ≡ listing_refusal xs)
+  listed_refused why h e = at_refusal h.most why e h.enough h.lines h.why
