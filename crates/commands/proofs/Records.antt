@@ -4,7 +4,8 @@ use Rattle.std.proofs.lemmas.List.{drop-drop, get_or-drop}
 use Rattle.std.proofs.lemmas.Bool.{eq-eqb, ne_eqb, eqb-true, cases_Bool, le-ltb, leb-true}
 use Rattle.blocks.specs.declared.refusal.Refusal.{Refusal}
 use Rattle.blocks.specs.declared.refusal.Refusal.TheVariants.{Length, Kind}
-use Rattle.blocks.specs.Calls.{answered, lowest, begun, bad_kind, four_refused, write_refused, written}
+use Rattle.blocks.specs.Calls.{answered, begun, bad_kind, four_refused, write_refused, written}
+use Rattle.bits.specs.Lowest.{lowest}
 use Rattle.blocks.specs.Blocks.{blocks_in}
 use Rattle.blocks.specs.Groups.{group_bits, group_octets}
 use Rattle.blocks.specs.Records.{look, rest_at, behind, known, size_of, item_of}
