@@ -1,3 +1,4 @@
+pub mod Walks
 pub mod Listing
 pub mod Printing
 pub mod Records

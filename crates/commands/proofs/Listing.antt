@@ -1,19 +1,23 @@
 -- A walk over a buffer, a line a record.
-use Rattle.std.proofs.Common.{◌≡◌, ℕ, zero, suc, ◌+◌, ◌<◌, ◌≤◌, true, false, List, [], ◌∷◌, ◌++◌, length, drop, length-drop, append_assoc, append-nil, add-one, ap, ◌∙◌, sym, refl, inl, inr, Option, None, Some, Ok, Err, Result, arith}
+use Rattle.std.proofs.Common.{◌≡◌, ℕ, zero, suc, ◌+◌, ◌<◌, ◌≤◌, true, false, List, [], ◌∷◌, ◌++◌, length, drop, length-drop, append_assoc, append-nil, add-one, ap, ap₂, ◌∙◌, sym, refl, inl, inr, Option, None, Some, Ok, Err, Result, arith}
 use Rattle.std.proofs.lemmas.Bool.{cases_Bool}
 use Rattle.blocks.specs.declared.refusal.Refusal.{Refusal}
-use Rattle.blocks.specs.Records.{Item, look, rest_at, behind, known, size_of}
+use Rattle.blocks.specs.Records.{Item, look, rest_at, record_size, known, size_of}
 use Rattle.blocks.specs.Refusals.{text_of}
+use Rattle.commands.specs.Walks.{behind}
+use Rattle.commands.proofs.Walks.{rest_first, rest_next}
 use Rattle.commands.specs.Text.{item_line, lines_from, refusal_from, then_lines, then_refusal, listed, listing_refusal}
 
 pub shorter : (n : ℕ) (xs : List ℕ) (r : ℕ × Item) → look n xs ≡ Ok (Some r) → length (behind xs) < length xs
 unfolding look
 shorter n [] r h = absurd cc
-shorter n (k ∷ xs) r h = omega (arith, length-drop (size_of k) xs)
+shorter n (k ∷ xs) r h = omega (arith, length-drop (1 + size_of k) (k ∷ xs))
 
 pub fewer : (xs ys : List ℕ) (n m : ℕ) (r : ℕ × Item) → ys ≡ xs → m ≡ n + 1 → look n (rest_at xs n) ≡ Ok (Some r) → length (rest_at ys m) < length (rest_at xs n)
-unfolding rest_at
-fewer xs ys n m r same next found = rw (same, next, add-one) (shorter n (rest_at xs n) r found)
+fewer xs ys n m r same next found =
+    let e : rest_at ys m ≡ behind (rest_at xs n) = ap₂ rest_at same next ∙ rest_next xs n in
+    let less = shorter n (rest_at xs n) r found in
+    omega (arith, less, ap length e)
 
 -- so many records of xs are in the text, and what m more bring is left
 pub record Listed (xs text : List ℕ) (n : ℕ) : Type 0 where
@@ -23,25 +27,28 @@ pub record Listed (xs text : List ℕ) (n : ℕ) : Type 0 where
   pub why : listing_refusal xs ≡ refusal_from most n (rest_at xs n)
 
 pub listed_first : (xs : List ℕ) → Listed xs [] 0
-unfolding rest_at
-listed_first xs = record { most = suc (length xs); enough = omega arith; lines = refl; why = refl }
+listed_first xs =
+    let e = rest_first xs in
+    record { most = suc (length xs); enough = omega (arith, ap length e); lines = ap (lines_from (suc (length xs)) 0) (sym e); why = ap (refusal_from (suc (length xs)) 0) (sym e) }
 
 module _ (xs text : List ℕ) (n : ℕ) where
   next : (m : ℕ) (r : ℕ × Item) → look n (rest_at xs n) ≡ Ok (Some r) → length (rest_at xs n) < m → listed xs ≡ text ++ lines_from m n (rest_at xs n)
-      → listing_refusal xs ≡ refusal_from m n (rest_at xs n) → Listed xs (text ++ item_line r.1) (suc n)
-  unfolding lines_from refusal_from rest_at
+      → listing_refusal xs ≡ refusal_from m n (rest_at xs n) → Listed xs (text ++ item_line r.1) (n + 1)
+  unfolding lines_from refusal_from
   next zero r e l p q = absurd (omega arith)
   next (suc m) r e l p q =
       let less = shorter n (rest_at xs n) r e in
+      let on = rest_next xs n in
       record {
-          most = m;
-          enough = omega arith;
-          lines = p ∙ ap (λ o. text ++ then_lines o (lines_from m (suc n) (behind (rest_at xs n)))) e ∙ sym (append_assoc text (item_line r.1) _);
-          why = q ∙ ap (λ o. then_refusal o (refusal_from m (suc n) (behind (rest_at xs n)))) e
+        most = m;
+        enough = omega (arith, less, ap length on);
+        lines = p ∙ ap (λ o. text ++ then_lines o (lines_from m (suc n) (behind (rest_at xs n)))) e ∙ sym (append_assoc text (item_line r.1) _)
+            ∙ ap₂ (λ i xs. (text ++ item_line r.1) ++ lines_from m i xs) (sym (add-one n)) (sym on);
+        why = q ∙ ap (λ o. then_refusal o (refusal_from m (suc n) (behind (rest_at xs n)))) e ∙ ap₂ (refusal_from m) (sym (add-one n)) (sym on);
       }
 
   pub listed_next : (r : ℕ × Item) → Listed xs text n → look n (rest_at xs n) ≡ Ok (Some r) → Listed xs (text ++ item_line r.1) (n + 1)
-  listed_next r h e = rw add-one (next h.most r e h.enough h.lines h.why)
+  listed_next r h e = next h.most r e h.enough h.lines h.why
 
   at_end : (m : ℕ) → look n (rest_at xs n) ≡ Ok None → length (rest_at xs n) < m → listed xs ≡ text ++ lines_from m n (rest_at xs n)
       → listing_refusal xs ≡ refusal_from m n (rest_at xs n) → (text ≡ listed xs) × (None ≡ listing_refusal xs)

@@ -4,18 +4,20 @@ use Rattle.std.proofs.lemmas.List.{drop-drop, get_or-drop}
 use Rattle.std.proofs.lemmas.Bool.{eq-eqb, ne_eqb, eqb-true, cases_Bool, le-ltb, leb-true}
 use Rattle.blocks.specs.declared.refusal.Refusal.{Refusal}
 use Rattle.blocks.specs.declared.refusal.Refusal.TheVariants.{Length, Kind}
-use Rattle.blocks.specs.Calls.{answered, begun, bad_kind, four_refused, write_refused, written}
+use Rattle.blocks.specs.Calls.{outcome_of, begun, bad_kind, four_refused, write_refused, written}
 use Rattle.bits.specs.Lowest.{lowest}
 use Rattle.blocks.specs.Blocks.{blocks_in}
 use Rattle.blocks.specs.Groups.{group_bits, group_octets}
-use Rattle.blocks.specs.Records.{look, rest_at, behind, known, size_of, item_of}
+use Rattle.blocks.specs.Records.{look, rest_at, known, size_of, item_of}
+use Rattle.commands.specs.Walks.{behind}
+use Rattle.commands.proofs.Walks.{behind_first, rest_first, rest_next}
 use Rattle.commands.specs.Groups.{no_block, unwanted, first_refused, first_of}
 
-pub answered_ok : {A : Type 0} (a x : A) (o : Option Refusal) → answered a o ≡ Ok x → (o ≡ None) × (x ≡ a)
+pub answered_ok : {A : Type 0} (a x : A) (o : Option Refusal) → outcome_of a o ≡ Ok x → (o ≡ None) × (x ≡ a)
 answered_ok a x None e = (refl, cc)
 answered_ok a x (Some r) e = absurd cc
 
-pub answered_err : {A : Type 0} (a : A) (o : Option Refusal) (r : Refusal) → answered a o ≡ Err r → o ≡ Some r
+pub answered_err : {A : Type 0} (a : A) (o : Option Refusal) (r : Refusal) → outcome_of a o ≡ Err r → o ≡ Some r
 answered_err a None r e = absurd cc
 answered_err a (Some q) r e = cc
 
@@ -25,8 +27,7 @@ pub record Left (n : ℕ) (xs : List ℕ) (i k : ℕ) : Type 0 where
   pub same : first_refused n 0 xs ≡ first_refused k i (rest_at xs i)
 
 pub all_left : (n : ℕ) (xs : List ℕ) → Left n xs 0 n
-unfolding rest_at
-all_left n xs = record { count = omega arith; same = refl }
+all_left n xs = record { count = omega arith; same = ap (first_refused n 0) (sym (rest_first xs)) }
 
 pub none_left : (n i k : ℕ) (xs : List ℕ) → n ≤ i → Left n xs i k → first_refused n 0 xs ≡ None
 unfolding first_refused
@@ -41,10 +42,10 @@ refused_here n i (suc k) xs e l h r = h.same ∙ ap (λ o. first_of o (first_ref
 
 pub block_here : (n i k : ℕ) (xs : List ℕ) → i < n → Left n xs i k → no_block (look i (rest_at xs i)) ≡ None
     → (m : ℕ) × Left n xs (i + 1) m
-unfolding first_refused rest_at
+unfolding first_refused
 block_here n i zero xs l h r = absurd (omega (arith, h.count))
 block_here n i (suc k) xs l h r =
-    (k, record { count = omega (arith, h.count); same = rw add-one (h.same ∙ ap (λ o. first_of o (first_refused k (suc i) (behind (rest_at xs i)))) r) })
+    (k, record { count = omega (arith, h.count); same = h.same ∙ ap (λ o. first_of o (first_refused k (suc i) (behind (rest_at xs i)))) r ∙ ap (λ j. first_refused k j (behind (rest_at xs i))) (sym (add-one i)) ∙ ap (first_refused k (i + 1)) (sym (rest_next xs i)) })
 
 -- what stands at the front: a block, less than a record, or what is no block
 abbrev pub IsBlock : List ℕ → Type 0
@@ -153,7 +154,7 @@ group_written xs group l h g =
     let f = (not_refused xs l h).1 in
     (rw (e, f) refl, rw (e, f) refl)
 
-pub group_accepted : (xs group : List ℕ) (r : Result (Unit {0}) Refusal) → r ≡ answered (tt {0}) (write_refused xs group) → length xs ≤ 36
+pub group_accepted : (xs group : List ℕ) (r : Result (Unit {0}) Refusal) → r ≡ outcome_of (tt {0}) (write_refused xs group) → length xs ≤ 36
     → first_refused 4 0 xs ≡ None → length group ≡ 33 → IsOk r
 group_accepted xs group r answer l h g = rw (answer, (group_written xs group l h g).0) refl
 

@@ -15,8 +15,8 @@ feed b = eqb b 10
 
 found : (p : ℕ → Bool) (xs : List ℕ) (i : ℕ) → position p xs ≡ Some i → (position_or_len p xs ≡ i) × (i < length xs)
 found p xs i h = elim (cases_Bool (ltb (position_or_len p xs) (length xs))) [
-    | inl e ↦ let s : Some (position_or_len p xs) ≡ Some i = rw e at h in let same : position_or_len p xs ≡ i = cc in (same, omega (arith, ltb-true (position_or_len p xs) (length xs) e))
-    | inr e ↦ let s : None ≡ Some i = rw e at h in absurd cc
+  | inl e ↦ let s : Some (position_or_len p xs) ≡ Some i = rw e at h in let same : position_or_len p xs ≡ i = cc in (same, omega (arith, ltb-true (position_or_len p xs) (length xs) e))
+  | inr e ↦ let s : None ≡ Some i = rw e at h in absurd cc
 ]
 
 pub split_here : (p : ℕ → Bool) (xs : List ℕ) (i : ℕ) → position p xs ≡ Some i → slice_split p xs ≡ take i xs ∷ slice_split p (take (length xs - (i + 1)) (drop (i + 1) xs))
@@ -27,9 +27,9 @@ split_here p xs i h =
 
 pub split_nowhere : (p : ℕ → Bool) (xs : List ℕ) → position p xs ≡ None → slice_split p xs ≡ xs ∷ []
 split_nowhere p xs h = elim (cases_Bool (ltb (position_or_len p xs) (length xs))) [
-    | inl e ↦ let s : Some (position_or_len p xs) ≡ None = rw e at h in absurd cc
-    | inr e ↦ let past = ltb-false (position_or_len p xs) (length xs) e in
-        slice_split_none p xs (All-from_get_or (λ x. p x ≡ false) xs 0 (λ k l. fails_before_first p xs k 0 (omega (arith, past))))
+  | inl e ↦ let s : Some (position_or_len p xs) ≡ None = rw e at h in absurd cc
+  | inr e ↦ let past = ltb-false (position_or_len p xs) (length xs) e in
+      slice_split_none p xs (All-from_get_or (λ x. p x ≡ false) xs 0 (λ k l. fails_before_first p xs k 0 (omega (arith, past))))
 ]
 
 -- what is read so far, in front of what is read of the rest

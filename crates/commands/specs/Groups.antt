@@ -4,7 +4,8 @@ use Rattle.blocks.specs.declared.refusal.Refusal.{Refusal}
 use Rattle.blocks.specs.declared.refusal.Refusal.TheVariants.{Length, Kind}
 use Rattle.blocks.specs.Blocks.{blocks_in}
 use Rattle.blocks.specs.Groups.{group_bits, group_octets}
-use Rattle.blocks.specs.Records.{Item, data_item, control_item, bad_item, note_item, look, behind}
+use Rattle.blocks.specs.Records.{Item, data_item, control_item, bad_item, note_item, look}
+use Rattle.commands.specs.Walks.{behind}
 use Rattle.blocks.specs.Refusals.{text_of}
 use Rattle.commands.specs.Lines.{line_of}
 

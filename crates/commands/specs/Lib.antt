@@ -1,3 +1,4 @@
+pub mod Walks
 pub mod Groups
 pub mod Lines
 pub mod Streams

@@ -5,7 +5,8 @@ use Rattle.std.specs.Cmp.Lexicographic.{pointwise}
 use Rattle.hex.specs.Hex.{encode_lower, decode_sized}
 use Rattle.hex.specs.declared.error.FromHexError.{FromHexError}
 use Rattle.blocks.specs.declared.refusal.Refusal.{Refusal}
-use Rattle.blocks.specs.Records.{Item, data_item, control_item, bad_item, note_item, look, behind}
+use Rattle.blocks.specs.Records.{Item, data_item, control_item, bad_item, note_item, look}
+use Rattle.commands.specs.Walks.{behind}
 use Rattle.blocks.specs.Refusals.{text_of}
 use Rattle.commands.specs.declared.text.Expected.{Expected}
 use Rattle.commands.specs.declared.text.Expected.TheVariants.{Word, Digits}

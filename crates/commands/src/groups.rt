@@ -1,7 +1,7 @@
 // The command `groups`: block records, four a group, become lines of text.
 ghost use Rattle.std.specs.Prelude.{◌≡◌, OnOk, ◌+◌, ◌≤◌, ◌<◌, ◌^◌, length, string_bytes, ◌++◌, ◌∷◌, [], IfOk, None, ℕ};
 ghost use Rattle.blocks.specs.Blocks.{blocks_in};
-ghost use Rattle.blocks.specs.Calls.{answered};
+ghost use Rattle.blocks.specs.Calls.{outcome_of};
 ghost use Rattle.blocks.specs.Groups.{group_bits, group_octets};
 ghost use Rattle.blocks.specs.Refusals.{place_of, text_of};
 ghost use Rattle.blocks.specs.Records.{look, rest_at};
@@ -23,7 +23,7 @@ const GROUP: usize = 33;
 
 // Takes the next record, which is to be a block.
 fn expect_block(reader: &mut Reader<'_>) -> Result<(), Refusal>
-    ensures answer { result ≡ answered tt (no_block (look reader.old.index (rest_at reader.old.src.now reader.old.index))) }
+    ensures answer { result ≡ outcome_of tt (no_block (look reader.old.index (rest_at reader.old.src.now reader.old.index))) }
     ensures source { reader.new.src.now ≡ reader.old.src.now }
     ensures index { OnOk result (reader.new.index ≡ reader.old.index + 1) }
 {
@@ -36,7 +36,7 @@ fn expect_block(reader: &mut Reader<'_>) -> Result<(), Refusal>
 
 // Whether four blocks stand in front; if not, why the first record that is none is refused.
 fn expect_group(records: &[u8]) -> Result<(), Refusal>
-    ensures { result ≡ answered tt (first_refused 4 0 records.now) }
+    ensures { result ≡ outcome_of tt (first_refused 4 0 records.now) }
 {
     let mut reader = Reader::new(records);
     for _ in 0..4u32 {
@@ -61,7 +61,7 @@ fn placed(refusal: Refusal, before: usize) -> Refusal
 #[tactic(auto, using(crate::proofs::Records::not_refused))]
 fn group_line(records: &[u8], before: usize) -> Result<[u8; LINE], Refusal>
     requires { (length records.now ≤ 36) × (before + 4 < 2 ^ 64) }
-    ensures { result ≡ answered (line_of (group_octets (group_bits (blocks_in 4 records.now)))) (first_refused 4 before records.now) }
+    ensures { result ≡ outcome_of (line_of (group_octets (group_bits (blocks_in 4 records.now)))) (first_refused 4 before records.now) }
 {
     if let Err(refusal) = expect_group(records) {
         return Err(placed(refusal, before));

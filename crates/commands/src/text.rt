@@ -10,10 +10,8 @@ ghost use Rattle.commands.specs.Streams.{Prints};
 use crate::streams::{gave_up, put};
 use blocks::{BadHeader, Reader, Record, Refusal};
 use std::alloc::{AllocError, Global};
-use std::error;
-use std::fmt;
-use std::io;
 use std::io::{Read, Write};
+use std::{error, fmt, io};
 
 // What a line of records has to have.
 #[derive(Clone, Copy, PartialEq, Eq, Debug)]
@@ -210,7 +208,10 @@ impl fmt::Display for Expected {
                 "one of data, control, bad00, bad11 and note, each with one space behind it, or a comment"
             ),
             Expected::Digits(count) => {
-                write!(f, "{count} hexadecimal digits behind the word, and nothing else")
+                write!(
+                    f,
+                    "{count} hexadecimal digits behind the word, and nothing else"
+                )
             }
         }
     }

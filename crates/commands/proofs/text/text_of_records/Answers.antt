@@ -13,7 +13,7 @@ loop-record-smaller c =
     let old = c.loop-record.reader in
     let e = c.in-Ok-Some.field-0-is in
     let found : look old.index (rest_at old.src.now old.index) ≡ Ok (Some (c.in-Ok-Some.field-0-0-0, item c.in-Ok-Some.record)) = sym c.in-Ok-Some.ensures.answer ∙ ap (λ o. shown (Ok o)) e in
-    fewer old.src.now c.next.new.self.src.now old.index c.next.new.self.index _ c.in-Ok-Some.ensures.source (c.in-Ok-Some.ensures.index ∙ ap (λ o. moved (shown (Ok o)) old.index) e) found
+    fewer old.src.now c.next.new.self.src.now old.index c.next.new.self.index _ (ap (λ b. b.now) c.in-Ok-Some.ensures.source) (c.in-Ok-Some.ensures.index ∙ ap (λ o. moved (shown (Ok o)) old.index) e) found
 
 pub loop-record-preserved : goal.loop-record-preserved
 loop-record-preserved c =
@@ -23,7 +23,7 @@ loop-record-preserved c =
     let next = listed_next c.args.records.now c.loop-record.text.items old.index _ before found in
     let text : c.push_line.new.text.items ≡ c.loop-record.text.items ++ item_line (item c.in-Ok-Some.record) = c.in_ok-push_line-in-Ok-Some.ensures in
     let index : c.next.new.self.index ≡ old.index + 1 = c.in-Ok-Some.ensures.index ∙ ap (λ o. moved (shown (Ok o)) old.index) c.in-Ok-Some.field-0-is in
-    (c.in-Ok-Some.ensures.source ∙ src, rw (text, index) next)
+    (ap (λ b. b.now) c.in-Ok-Some.ensures.source ∙ src, rw (text, index) next)
 
 pub returns-in-Ok-None : goal.returns-in-Ok-None
 returns-in-Ok-None c =
