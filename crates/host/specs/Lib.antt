@@ -1,3 +1,4 @@
 pub mod Crossing
 pub mod Replies
 pub mod Calls
+pub mod Version

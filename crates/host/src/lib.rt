@@ -4,4 +4,5 @@
 mod groups;
 mod reply;
 mod symbols;
+mod version;
 mod words;

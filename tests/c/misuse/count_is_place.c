@@ -1,0 +1,8 @@
+/* -Wrestrict: one object as count and as place. */
+#include "dartzulia.h"
+
+uint32_t misuse(uint8_t word[DARTZULIA_WORD_BYTES])
+{
+    size_t changed = 0;
+    return dartzulia_correct(word, DARTZULIA_WORD_BYTES, &changed, &changed);
+}
