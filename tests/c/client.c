@@ -52,7 +52,8 @@ static uint8_t *clear(struct room *room)
 
 static void expect_kept_around(const struct room *room, size_t written, const char *what)
 {
-    expect(all(room->before, sizeof room->before, KEPT) && all(room->bytes + written, sizeof room->bytes - written, KEPT), what);
+    expect(all(room->before, sizeof room->before, KEPT) && all(room->bytes + written, sizeof room->bytes - written, KEPT),
+           what);
 }
 
 static void names(void)
@@ -77,13 +78,15 @@ static void names(void)
         expect(strcmp(dartzulia_answer_text(texts[i].answer), texts[i].text) == 0, texts[i].text);
     }
     expect(DARTZULIA_ACCEPTED == 0 && DARTZULIA_REFUSED_BYTES == 3 && DARTZULIA_REFUSED_KIND == 4, "the answers of groups");
-    expect(DARTZULIA_REFUSED_LENGTH == 6 && DARTZULIA_REFUSED_SYMBOL == 7 && DARTZULIA_REFUSED_REACH == 8, "the answers of words");
+    expect(DARTZULIA_REFUSED_LENGTH == 6 && DARTZULIA_REFUSED_SYMBOL == 7 && DARTZULIA_REFUSED_REACH == 8,
+           "the answers of words");
     expect(DARTZULIA_KIND_BAD_ZEROS == 0 && DARTZULIA_KIND_CONTROL == 1, "the kinds 0 and 1");
     expect(DARTZULIA_KIND_DATA == 2 && DARTZULIA_KIND_BAD_ONES == 3, "the kinds 2 and 3");
     expect(DARTZULIA_RECORD_BYTES == 9 && DARTZULIA_RECORDS_BYTES == 36 && DARTZULIA_GROUP_BYTES == 33, "the sizes of groups");
     expect(DARTZULIA_MESSAGE_BYTES == 1028 && DARTZULIA_WORD_BYTES == 1088, "the sizes of words");
     expect(DARTZULIA_MESSAGE_SYMBOLS == 514 && DARTZULIA_WORD_SYMBOLS == 544, "their symbols");
-    expect(DARTZULIA_RECORDS == 36 && DARTZULIA_GROUP == 33 && DARTZULIA_MESSAGE == 1028 && DARTZULIA_WORD == 1088, "the older names");
+    expect(DARTZULIA_RECORDS == 36 && DARTZULIA_GROUP == 33 && DARTZULIA_MESSAGE == 1028 && DARTZULIA_WORD == 1088,
+           "the older names");
 
     snprintf(version, sizeof version, "%d.%d.%d", DARTZULIA_VERSION_MAJOR, DARTZULIA_VERSION_MINOR, DARTZULIA_VERSION_PATCH);
     expect(strcmp(version, DARTZULIA_VERSION) == 0, "the version's text and its numbers");
@@ -132,7 +135,8 @@ static void groups(void)
     records[1] = 0x3e;
     expect(dartzulia_is_sound(records, sizeof records, &sound, &place) == 0 && sound == 0, "type 3E is not sound");
     expect(dartzulia_write_group(records, sizeof records, group, sizeof group, &place) == 0, "type 3E is written");
-    expect(dartzulia_read_group(group, sizeof group, back, sizeof back, &place) == 0 && back[1] == 0x1e, "and comes back as 1E");
+    expect(dartzulia_read_group(group, sizeof group, back, sizeof back, &place) == 0 && back[1] == 0x1e,
+           "and comes back as 1E");
 }
 
 static void refused_groups(void)
@@ -170,14 +174,16 @@ static void compare_group(const uint8_t records[DARTZULIA_RECORDS_BYTES])
     expect(memcmp(group, expected, DARTZULIA_GROUP_BYTES) == 0, "the group is the model's");
     expect_kept_around(&room, DARTZULIA_GROUP_BYTES, "nothing is written beside the group");
     place = 99;
-    expect(dartzulia_is_sound(records, DARTZULIA_RECORDS_BYTES, &sound, &place) == 0 && place == 0, "a group of good kinds is judged");
+    expect(dartzulia_is_sound(records, DARTZULIA_RECORDS_BYTES, &sound, &place) == 0 && place == 0,
+           "a group of good kinds is judged");
     expect(sound == model_is_sound(records), "the model judges alike");
 
     memcpy(kept, group, sizeof kept);
     clear(&room);
     place = 99;
     model_read(kept, expected);
-    expect(dartzulia_read_group(kept, sizeof kept, room.bytes, DARTZULIA_RECORDS_BYTES, &place) == 0 && place == 0, "a group is read");
+    expect(dartzulia_read_group(kept, sizeof kept, room.bytes, DARTZULIA_RECORDS_BYTES, &place) == 0 && place == 0,
+           "a group is read");
     expect(memcmp(room.bytes, expected, DARTZULIA_RECORDS_BYTES) == 0, "the records are the model's");
     expect_kept_around(&room, DARTZULIA_RECORDS_BYTES, "nothing is written beside the records");
     if (sound) {
@@ -336,7 +342,8 @@ static void words(void)
     memcpy(sent, word, sizeof word);
     changed = 99;
     place = 99;
-    expect(dartzulia_watch(word, sizeof word, &changed, &place) == 8 && changed == 99 && place == 0, "watch refuses one changed symbol");
+    expect(dartzulia_watch(word, sizeof word, &changed, &place) == 8 && changed == 99 && place == 0,
+           "watch refuses one changed symbol");
     expect(memcmp(word, sent, sizeof word) == 0, "and leaves the word");
 }
 
@@ -364,8 +371,10 @@ static void refused_words(void)
     memset(message, 0, sizeof message);
     set_symbol(message, 2, 1024);
     memcpy(sent, word, sizeof word);
-    expect(dartzulia_encode(message, sizeof message, word, sizeof word, &place) == 7 && place == 2, "a message symbol above 1,023");
-    expect(dartzulia_encode(message, sizeof message - 2, word, sizeof word, &place) == 6 && place == 0, "513 symbols of message");
+    expect(dartzulia_encode(message, sizeof message, word, sizeof word, &place) == 7 && place == 2,
+           "a message symbol above 1,023");
+    expect(dartzulia_encode(message, sizeof message - 2, word, sizeof word, &place) == 6 && place == 0,
+           "513 symbols of message");
     expect(dartzulia_encode(message, sizeof message, word, sizeof word - 1, &place) == 6 && place == 0, "a word of odd length");
     expect(memcmp(word, sent, sizeof word) == 0, "a refused encode leaves the word");
 }
@@ -434,7 +443,8 @@ static void words_by_the_model(void)
         clear(&room);
         draw_message(message);
         memcpy(kept, message, sizeof kept);
-        expect(dartzulia_encode(message, sizeof message, room.bytes, DARTZULIA_WORD_BYTES, &place) == 0 && place == 0, "encode");
+        expect(dartzulia_encode(message, sizeof message, room.bytes, DARTZULIA_WORD_BYTES, &place) == 0 && place == 0,
+               "encode");
         expect_kept_around(&room, DARTZULIA_WORD_BYTES, "nothing is written beside the codeword");
         memcpy(sent, room.bytes, sizeof sent);
         expect(memcmp(message, kept, sizeof kept) == 0 && memcmp(sent, message, sizeof message) == 0, "the message leads");
@@ -472,10 +482,12 @@ static void refused_words_at_each_length(void)
         expect(dartzulia_watch(word, n, &changed, &place) == answer && changed == 99 && place == 0, "watch at each length");
         answer = n == DARTZULIA_MESSAGE_BYTES ? DARTZULIA_REFUSED_SYMBOL : DARTZULIA_REFUSED_LENGTH;
         place = 99;
-        expect(dartzulia_encode(message, n, word, DARTZULIA_WORD_BYTES, &place) == answer && place == 0, "encode at each length");
+        expect(dartzulia_encode(message, n, word, DARTZULIA_WORD_BYTES, &place) == answer && place == 0,
+               "encode at each length");
         answer = n == DARTZULIA_WORD_BYTES ? DARTZULIA_REFUSED_SYMBOL : DARTZULIA_REFUSED_LENGTH;
         place = 99;
-        expect(dartzulia_encode(message, DARTZULIA_MESSAGE_BYTES, word, n, &place) == answer && place == 0, "room at each length");
+        expect(dartzulia_encode(message, DARTZULIA_MESSAGE_BYTES, word, n, &place) == answer && place == 0,
+               "room at each length");
     }
     expect(memcmp(word, kept, sizeof word) == 0, "refused words stay");
     for (size_t i = 0; i < DARTZULIA_WORD_SYMBOLS; i++) {
@@ -493,9 +505,8 @@ static void refused_words_at_each_length(void)
         if (i < DARTZULIA_MESSAGE_SYMBOLS) {
             memcpy(message, word, sizeof message);
             place = 99;
-            expect(dartzulia_encode(message, DARTZULIA_MESSAGE_BYTES, word, DARTZULIA_WORD_BYTES, &place) == DARTZULIA_REFUSED_SYMBOL
-                       && place == i,
-                   "encode and the first symbol above 1,023");
+            uint32_t answer = dartzulia_encode(message, DARTZULIA_MESSAGE_BYTES, word, DARTZULIA_WORD_BYTES, &place);
+            expect(answer == DARTZULIA_REFUSED_SYMBOL && place == i, "encode and the first symbol above 1,023");
             expect(memcmp(word, kept, sizeof word) == 0, "the room of a refused message stays");
         }
     }
@@ -503,7 +514,8 @@ static void refused_words_at_each_length(void)
     size_t place = 99;
     memset(message, 0, sizeof message);
     memset(word, 0xff, sizeof word);
-    expect(dartzulia_encode(message, DARTZULIA_MESSAGE_BYTES, word, DARTZULIA_WORD_BYTES, &place) == 0 && place == 0, "room with any symbols");
+    expect(dartzulia_encode(message, DARTZULIA_MESSAGE_BYTES, word, DARTZULIA_WORD_BYTES, &place) == 0 && place == 0,
+           "room with any symbols");
     expect(all(word, DARTZULIA_WORD_BYTES, 0) && all(word + DARTZULIA_WORD_BYTES, 4, 0xff), "the codeword of zeros");
 }
 

@@ -74,14 +74,13 @@ def main():
     pages += sorted(os.path.join(TOP, "docs", name) for name in os.listdir(os.path.join(TOP, "docs")) if name.endswith(".md"))
     links = wrong = 0
     for page in pages:
-        for number, line in enumerate(read(page).split("\n"), 1):
-            for cell in line.split(" | "):
-                for link in LINK.finditer(cell):
-                    links += 1
-                    behind = cell[link.end() :].split("[")[0]
-                    for slip in wrong_link(page, link.group(1), link.group(2), behind):
-                        wrong += 1
-                        print(f"{os.path.relpath(page, TOP)}:{number}: {slip}")
+        text = read(page)
+        for link in LINK.finditer(text):
+            links += 1
+            behind = re.split(r"\[| \| |\n", text[link.end() :], maxsplit=1)[0]
+            for slip in wrong_link(page, " ".join(link.group(1).split()), link.group(2), behind):
+                wrong += 1
+                print(f"{os.path.relpath(page, TOP)}:{text.count(chr(10), 0, link.start()) + 1}: {slip}")
     print(f"docs: {links} links, {wrong} wrong")
     return 1 if wrong else 0
 
