@@ -1,5 +1,5 @@
 -- Symbols in octets.
-use Rattle.std.proofs.Common.{◌≡◌, ℕ, zero, suc, ◌+◌, ◌*◌, ◌/◌, ◌%◌, ◌^◌, ◌<◌, true, eqb, List, [], ◌∷◌, map, length, drop, get_or, sym, ap, ◌∙◌, ap₂, add-zero, inl, inr, arith}
+use Rattle.std.proofs.Common.{◌≡◌, ℕ, suc, ◌+◌, ◌*◌, ◌/◌, ◌%◌, ◌^◌, ◌<◌, true, eqb, List, [], ◌∷◌, map, length, drop, get_or, sym, ap, ◌∙◌, ap₂, add-zero, inl, inr, refl, arith}
 use Rattle.std.proofs.lemmas.List.{ext_get_or, get_or-take, get_or-drop, get_or-map, length-map}
 use Rattle.std.specs.Int.{to_le_bytes}
 use Rattle.std.specs.List.{flat_map}
@@ -9,7 +9,7 @@ use Rattle.std.proofs.lemmas.Bool.{eq-eqb, eqb-true, cases_Bool}
 use Rattle.bits.specs.Bits.{table}
 use Rattle.bits.proofs.Arrays.{chunk_at}
 use Rattle.bits.proofs.Tables.{length-table, nth-table}
-use Rattle.host.specs.Crossing.{symbol_at, symbols_in}
+use Rattle.host.specs.Crossing.{symbol_at, symbols_in, symbol_octets}
 
 symbols_table : (xs : List ℕ) (n : ℕ) → length xs ≡ 2 * n → symbols_in xs ≡ table n (symbol_at xs)
 unfolding symbols_in
@@ -38,15 +38,15 @@ low_first-pair xs n k h =
     ap₂ (λ (u v : ℕ). u + 256 * v) (pair_at xs n k 0 h (omega arith) ∙ ap (λ (i : ℕ). get_or xs i 0) (add-zero (2 * k))) (pair_at xs n k 1 h (omega arith))
 
 -- a buffer whose symbols are n has 2 n octets
-pub octets_of : (xs : List ℕ) (n : ℕ) → 0 < n → length (symbols_in xs) ≡ n → length xs ≡ 2 * n
+pub length_from-symbols_in : (xs : List ℕ) (n : ℕ) → 0 < n → length (symbols_in xs) ≡ n → length xs ≡ 2 * n
 unfolding symbols_in
-octets_of xs n p h = elim (cases_Bool (eqb (length xs % 2) 0)) [
+length_from-symbols_in xs n p h = elim (cases_Bool (eqb (length xs % 2) 0)) [
   | inl e ↦ let k = rw e at h in let m = length-table (length xs / 2) (symbol_at xs) in let q = eqb-true _ _ e in omega arith
   | inr e ↦ let k = rw e at h in absurd (omega arith)
 ]
 
-pub symbols_of : (xs : List ℕ) (n : ℕ) → length xs ≡ 2 * n → length (symbols_in xs) ≡ n
-symbols_of xs n h = ap length (symbols_table xs n h) ∙ length-table n (symbol_at xs)
+pub length-symbols_in : (xs : List ℕ) (n : ℕ) → length xs ≡ 2 * n → length (symbols_in xs) ≡ n
+length-symbols_in xs n h = ap length (symbols_table xs n h) ∙ length-table n (symbol_at xs)
 
 -- pairs of octets, one for each symbol
 pub pairs_of : (xs : List ℕ) (ps : List (List ℕ)) → length ps ≡ length xs → ((k : ℕ) → k < length xs → get_or ps k [] ≡ to_le_bytes w16 (get_or xs k 0)) → ps ≡ map (to_le_bytes w16) xs
@@ -54,12 +54,10 @@ pairs_of xs ps n h = ext_get_or [] ps (map (to_le_bytes w16) xs) (n ∙ sym (len
     h k (omega arith) ∙ sym (get_or-map (to_le_bytes w16) xs k 0 [] (omega arith)))
 
 -- symbols stored one after another
-pub stored : (xs : List ℕ) → ((k : ℕ) → get_or xs k 0 < 2 ^ 16) → (k : ℕ) → k < length xs → symbol_at (flat_map (λ l. l) (map (to_le_bytes w16) xs)) k ≡ get_or xs k 0
-stored [] small k h = absurd (omega arith)
-stored (x ∷ xs) small zero h = let s = small 0 in omega arith
-stored (x ∷ xs) small (suc k) h =
-    let ys : List ℕ = flat_map (λ l. l) (map (to_le_bytes w16) (x ∷ xs)) in
-    let e : 2 * suc k ≡ suc (suc (2 * k)) = omega arith in
-    let f : 2 * suc k + 1 ≡ suc (suc (2 * k + 1)) = omega arith in
-    ap₂ (λ (u v : ℕ). u + 256 * v) (ap (λ (i : ℕ). get_or ys i 0) e) (ap (λ (i : ℕ). get_or ys i 0) f)
-    ∙ stored xs (λ i. small (suc i)) k (omega arith)
+pub stored : (xs : List ℕ) → ((k : ℕ) → get_or xs k 0 < 2 ^ 16) → flat_map (λ l. l) (map (to_le_bytes w16) xs) ≡ symbol_octets xs
+unfolding symbol_octets
+stored [] small = refl
+stored (x ∷ xs) small =
+    let s = small 0 in
+    let high : x / 256 % 256 ≡ x / 256 = omega arith in
+    rw (high, stored xs (λ k. small (suc k))) refl

@@ -1,4 +1,3 @@
 pub mod Crossing
 pub mod Replies
-pub mod Calls
 pub mod Version

@@ -2,7 +2,7 @@
 ghost use Rattle.std.specs.Prelude.{◌≡◌, ◌*◌, ◌<◌, length, slice_index};
 ghost use Rattle.std.specs.Int.{to_le_bytes};
 ghost use mir.Syntax.{w16};
-ghost use Rattle.host.specs.Crossing.{symbols_in};
+ghost use Rattle.host.specs.Crossing.{symbols_in, symbol_octets};
 
 use std::array;
 
@@ -16,7 +16,7 @@ pub fn load<const N: usize>(octets: &[u8]) -> [u16; N]
 
 pub fn store(symbols: &[u16; 544], octets: &mut [u8])
     requires { length octets.old ≡ 1088 }
-    ensures { symbols_in octets.new ≡ symbols.now }
+    ensures { octets.new ≡ symbol_octets symbols.now }
 {
     // By `from_fn`: with `symbols.map(u16::to_le_bytes)` a word took a third longer to encode.
     let pairs: [[u8; 2]; 544] = array::from_fn(

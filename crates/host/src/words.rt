@@ -1,8 +1,8 @@
 // Encoding and correcting for C.
-ghost use Rattle.std.specs.Prelude.{◌≡◌, OnErr};
-ghost use Rattle.code.specs.Answers.{Encodes, Corrected, number_of, place_of};
-ghost use Rattle.host.specs.Calls.{EncodeCall, CorrectCall};
+ghost use Rattle.std.specs.Prelude.{◌≡◌};
+ghost use Rattle.code.specs.Answers.{number_of, place_of, correction, corrected_count, encoding, encode_answer};
 ghost use Rattle.host.specs.Crossing.{symbols_in};
+ghost use Rattle.host.specs.Replies.{word_number, word_place, word_left, count_left};
 
 use super::reply::reply;
 use super::symbols;
@@ -22,8 +22,8 @@ fn crossed(e: Refusal) -> (u32, usize)
 }
 
 fn encode(message: &[u8], word: &mut [u8]) -> Result<(), Refusal>
-    ensures encodes { Encodes (symbols_in message.now) (symbols_in word.old) (symbols_in word.new) result }
-    ensures kept { OnErr result (word.new ≡ word.old) }
+    ensures answer { result ≡ encode_answer (symbols_in message.now) (symbols_in word.old) }
+    ensures word { word.new ≡ word_left (encoding (symbols_in message.now) (symbols_in word.old)) word.old }
 {
     if message.len() != MESSAGE || word.len() != WORD {
         return Err(Refusal::Length);
@@ -37,8 +37,8 @@ fn encode(message: &[u8], word: &mut [u8]) -> Result<(), Refusal>
 
 // Corrects the word by the engine.
 fn correct<E: Engine>(engine: &mut E, word: &mut [u8]) -> Result<usize, Refusal>
-    ensures corrects { Corrected E.Engine.reach (symbols_in word.old) (symbols_in word.new) result }
-    ensures kept { OnErr result (word.new ≡ word.old) }
+    ensures answer { result ≡ corrected_count E.Engine.reach (symbols_in word.old) }
+    ensures word { word.new ≡ word_left (correction E.Engine.reach (symbols_in word.old)) word.old }
 {
     if word.len() != WORD {
         return Err(Refusal::Length);
@@ -52,14 +52,19 @@ fn correct<E: Engine>(engine: &mut E, word: &mut [u8]) -> Result<usize, Refusal>
 // C calls each by a name of its own, and hands buffers, place and count over as pointers.
 #[unsafe(no_mangle)]
 pub extern "C" fn dartzulia_encode(message: &[u8], word: &mut [u8], place: &mut usize) -> u32
-    ensures { EncodeCall message.now word.old word.new place.new result }
+    ensures number { result ≡ word_number (encode_answer (symbols_in message.now) (symbols_in word.old)) }
+    ensures place { place.new ≡ word_place (encode_answer (symbols_in message.now) (symbols_in word.old)) }
+    ensures word { word.new ≡ word_left (encoding (symbols_in message.now) (symbols_in word.old)) word.old }
 {
     reply(encode(message, word).map_err(crossed), &mut (), place)
 }
 
 #[unsafe(no_mangle)]
 pub extern "C" fn dartzulia_correct(word: &mut [u8], changed: &mut usize, place: &mut usize) -> u32
-    ensures { CorrectCall 15 word.old word.new changed.old changed.new place.new result }
+    ensures number { result ≡ word_number (corrected_count 15 (symbols_in word.old)) }
+    ensures place { place.new ≡ word_place (corrected_count 15 (symbols_in word.old)) }
+    ensures changed { changed.new ≡ count_left (corrected_count 15 (symbols_in word.old)) changed.old }
+    ensures word { word.new ≡ word_left (correction 15 (symbols_in word.old)) word.old }
 {
     let answer = correct(&mut FullEngine::new(), word);
     reply(answer.map_err(crossed), changed, place)
@@ -67,7 +72,10 @@ pub extern "C" fn dartzulia_correct(word: &mut [u8], changed: &mut usize, place:
 
 #[unsafe(no_mangle)]
 pub extern "C" fn dartzulia_watch(word: &mut [u8], changed: &mut usize, place: &mut usize) -> u32
-    ensures { CorrectCall 0 word.old word.new changed.old changed.new place.new result }
+    ensures number { result ≡ word_number (corrected_count 0 (symbols_in word.old)) }
+    ensures place { place.new ≡ word_place (corrected_count 0 (symbols_in word.old)) }
+    ensures changed { changed.new ≡ count_left (corrected_count 0 (symbols_in word.old)) changed.old }
+    ensures word { word.new ≡ word_left (correction 0 (symbols_in word.old)) word.old }
 {
     let answer = correct(&mut WatchEngine::new(), word);
     reply(answer.map_err(crossed), changed, place)

@@ -1,6 +1,9 @@
 use Rattle.std.proofs.Common.{refl}
-use Rattle.host.proofs.Crossed.{not_a_word}
+use Rattle.host.proofs.Lengths.{correction-length}
 use Rattle.host.proofs.words.correct.Goals as goal
 
-pub returns-then-word-ne-WORD-clause-corrects : goal.returns-then-word-ne-WORD-clause-corrects
-returns-then-word-ne-WORD-clause-corrects g c = (refl, not_a_word c.args.word.now c.if-word-ne-WORD.true)
+pub returns-then-word-ne-WORD-clause-answer : goal.returns-then-word-ne-WORD-clause-answer
+returns-then-word-ne-WORD-clause-answer g c = rw (correction-length g.E.Engine.reach c.args.word.now c.if-word-ne-WORD.true) refl
+
+pub returns-then-word-ne-WORD-clause-word : goal.returns-then-word-ne-WORD-clause-word
+returns-then-word-ne-WORD-clause-word g c = rw (correction-length g.E.Engine.reach c.args.word.now c.if-word-ne-WORD.true) refl
