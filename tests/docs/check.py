@@ -23,7 +23,7 @@ def anchors(path):
 
 
 def contracts_of(source, name):
-    """Of each function of that name, its text up to the body, and what stands before it in its impl or trait."""
+    """Of each function of that name, its text up to the body, and that of the impl or trait that it stands in."""
     lines = source.split("\n")
     for at, line in enumerate(lines):
         if not re.search(rf"\bfn {re.escape(name)}\b", line):
@@ -34,7 +34,10 @@ def contracts_of(source, name):
         start = at
         while start > 0 and not re.match(r"impl|pub trait|#\[", lines[start]):
             start -= 1
-        yield "\n".join(lines[at : end + 1]), "\n".join(lines[start:at])
+        last = at
+        while last < len(lines) - 1 and lines[last] != "}":
+            last += 1
+        yield "\n".join(lines[at : end + 1]), "\n".join(lines[start : last + 1])
 
 
 def wrong_contract(source, name, labels):
@@ -43,7 +46,7 @@ def wrong_contract(source, name, labels):
         yield f"there is no function {name}"
         return
     for label in labels:
-        if not any(re.search(rf"ensures {label} \{{", own) or re.search(rf"ghost {label}\b", before) for own, before in found):
+        if not any(re.search(rf"ensures {label} \{{", own) or re.search(rf"ghost {label}\b", around) for own, around in found):
             yield f"{name} has no clause {label}"
 
 
