@@ -1,5 +1,6 @@
 """Whether the pages speak of what is there: every link of README.md and docs/ has its file and its heading, and in
-docs/claims.md every contract has its function and its clauses, every definition its name in the file, every edit its label."""
+docs/claims.md every contract has its function and its clauses, every definition its name in the file, every edit its label.
+The table of crates in README.md has the crates of crates.txt, and beside a library those that it stands on."""
 
 import os
 import re
@@ -72,6 +73,28 @@ def wrong_link(page, words, target, behind):
         yield f"{name} is not the label of {target}"
 
 
+def wrong_crates():
+    """What is wrong with the README's table of crates."""
+    stands_on = {}
+    for line in read(os.path.join(TOP, "crates.txt")).split("\n"):
+        crate = re.match(r"(\w+)(?: staticlib)?:(.*)", line)
+        if crate:
+            stands_on[crate.group(1)] = crate.group(2).split()
+    table = read(os.path.join(TOP, "README.md")).partition("\n## Crates\n")[2].partition("\n## ")[0]
+    seen = set()
+    for row in re.findall(r"^\| (`.*) \|$", table, re.M):
+        cells = row.split(" | ")
+        names = re.findall(r"`(\w+)`", cells[0])
+        seen.update(names)
+        below = re.findall(r"`(\w+)`", cells[2]) if len(cells) > 2 else []
+        for name in names:
+            own = [crate for crate in stands_on.get(name, []) if crate in stands_on]
+            if len(names) == 1 and sorted(own) != sorted(below):
+                yield f"{name} stands on {' '.join(own) or 'nothing'}"
+    for name in sorted(seen ^ set(stands_on)):
+        yield f"{name} is in crates.txt or in the table of crates, and not in both"
+
+
 def main():
     pages = [os.path.join(TOP, "README.md")]
     pages += sorted(os.path.join(TOP, "docs", name) for name in os.listdir(os.path.join(TOP, "docs")) if name.endswith(".md"))
@@ -84,6 +107,9 @@ def main():
             for slip in wrong_link(page, " ".join(link.group(1).split()), link.group(2), behind):
                 wrong += 1
                 print(f"{os.path.relpath(page, TOP)}:{text.count(chr(10), 0, link.start()) + 1}: {slip}")
+    for slip in wrong_crates():
+        wrong += 1
+        print(f"README.md: {slip}")
     print(f"docs: {links} links, {wrong} wrong")
     return 1 if wrong else 0
 
