@@ -1,5 +1,6 @@
 pub mod Listing
 pub mod Printing
 pub mod Records
+pub mod Returning
 pub mod TextLines
 pub mod Texts

@@ -1,8 +1,7 @@
 -- A walk over a buffer, a line a record.
-use Rattle.std.proofs.Common.{◌≡◌, ℕ, zero, suc, ◌+◌, ◌<◌, ◌≤◌, true, false, List, [], ◌∷◌, ◌++◌, length, drop, length-drop, append_assoc, append-nil, add-one, ap, ◌∙◌, sym, refl, inl, inr, Option, None, Some, Ok, Err, Result, arith}
-use Rattle.std.proofs.lemmas.Bool.{cases_Bool}
+use Rattle.std.proofs.Common.{◌≡◌, ℕ, zero, suc, ◌+◌, ◌<◌, List, [], ◌∷◌, ◌++◌, length, length-drop, append_assoc, append-nil, add-one, ap, ◌∙◌, sym, refl, None, Some, Ok, Err, arith}
 use Rattle.blocks.specs.declared.refusal.Refusal.{Refusal}
-use Rattle.blocks.specs.Records.{Item, look, rest_at, behind, known, size_of}
+use Rattle.blocks.specs.Records.{Item, look, rest_at, behind, size_of}
 use Rattle.blocks.specs.Refusals.{text_of}
 use Rattle.commands.specs.Text.{item_line, lines_from, refusal_from, then_lines, then_refusal, listed, listing_refusal}
 
@@ -34,10 +33,10 @@ module _ (xs text : List ℕ) (n : ℕ) where
   next (suc m) r e l p q =
       let less = shorter n (rest_at xs n) r e in
       record {
-          most = m;
-          enough = omega arith;
-          lines = p ∙ ap (λ o. text ++ then_lines o (lines_from m (suc n) (behind (rest_at xs n)))) e ∙ sym (append_assoc text (item_line r.1) _);
-          why = q ∙ ap (λ o. then_refusal o (refusal_from m (suc n) (behind (rest_at xs n)))) e
+        most = m;
+        enough = omega arith;
+        lines = p ∙ ap (λ o. text ++ then_lines o (lines_from m (suc n) (behind (rest_at xs n)))) e ∙ sym (append_assoc text (item_line r.1) _);
+        why = q ∙ ap (λ o. then_refusal o (refusal_from m (suc n) (behind (rest_at xs n)))) e;
       }
 
   pub listed_next : (r : ℕ × Item) → Listed xs text n → look n (rest_at xs n) ≡ Ok (Some r) → Listed xs (text ++ item_line r.1) (n + 1)

@@ -1,11 +1,11 @@
 -- Lines of a text, their records, and records that come back from their lines.
-use Rattle.std.proofs.Common.{◌≡◌, ℕ, zero, suc, ◌+◌, ◌-◌, ◌<◌, ◌≤◌, Bool, true, false, eqb, ltb, List, [], ◌∷◌, ◌++◌, length, take, drop, get_or, length-drop, append_assoc, append-nil, add-one, ap, ap₂, ◌∙◌, sym, refl, subst, inl, inr, Option, None, Some, Ok, Err, Result, MatchResult, MatchOption, arith}
+use Rattle.std.proofs.Common.{◌≡◌, ℕ, ◌+◌, ◌-◌, ◌<◌, Bool, false, eqb, ltb, List, [], ◌∷◌, ◌++◌, length, take, drop, append_assoc, append-nil, ap, ◌∙◌, sym, refl, inl, inr, Option, None, Some, Ok, Err, Result, MatchResult, MatchOption, arith}
 use Rattle.std.proofs.lemmas.Bool.{cases_Bool, ltb-true, ltb-false}
-use Rattle.std.proofs.lemmas.List.{take_all, take_rest}
+use Rattle.std.proofs.lemmas.List.{take_rest}
 use Rattle.std.proofs.lemmas.List.Elements.{All-from_get_or}
-use Rattle.std.proofs.lemmas.List.Splits.{slice_split_first, slice_split_none, slice_split_at}
+use Rattle.std.proofs.lemmas.List.Splits.{slice_split_first, slice_split_none}
 use Rattle.std.proofs.lemmas.List.Sums.{fails_before_first}
-use Rattle.std.specs.List.{position, position_or_len, slice_split, All}
+use Rattle.std.specs.List.{position, position_or_len, slice_split}
 use Rattle.commands.specs.Text.{line_record, then_records, records_in}
 use Rattle.commands.specs.declared.text.Expected.{Expected}
 use Rattle.commands.specs.declared.text.WrongLine.{WrongLine}
@@ -15,8 +15,8 @@ feed b = eqb b 10
 
 found : (p : ℕ → Bool) (xs : List ℕ) (i : ℕ) → position p xs ≡ Some i → (position_or_len p xs ≡ i) × (i < length xs)
 found p xs i h = elim (cases_Bool (ltb (position_or_len p xs) (length xs))) [
-    | inl e ↦ let s : Some (position_or_len p xs) ≡ Some i = rw e at h in let same : position_or_len p xs ≡ i = cc in (same, omega (arith, ltb-true (position_or_len p xs) (length xs) e))
-    | inr e ↦ let s : None ≡ Some i = rw e at h in absurd cc
+  | inl e ↦ let s : Some (position_or_len p xs) ≡ Some i = rw e at h in let same : position_or_len p xs ≡ i = cc in (same, omega (arith, ltb-true (position_or_len p xs) (length xs) e))
+  | inr e ↦ let s : None ≡ Some i = rw e at h in absurd cc
 ]
 
 pub split_here : (p : ℕ → Bool) (xs : List ℕ) (i : ℕ) → position p xs ≡ Some i → slice_split p xs ≡ take i xs ∷ slice_split p (take (length xs - (i + 1)) (drop (i + 1) xs))
@@ -27,9 +27,9 @@ split_here p xs i h =
 
 pub split_nowhere : (p : ℕ → Bool) (xs : List ℕ) → position p xs ≡ None → slice_split p xs ≡ xs ∷ []
 split_nowhere p xs h = elim (cases_Bool (ltb (position_or_len p xs) (length xs))) [
-    | inl e ↦ let s : Some (position_or_len p xs) ≡ None = rw e at h in absurd cc
-    | inr e ↦ let past = ltb-false (position_or_len p xs) (length xs) e in
-        slice_split_none p xs (All-from_get_or (λ x. p x ≡ false) xs 0 (λ k l. fails_before_first p xs k 0 (omega (arith, past))))
+  | inl e ↦ let s : Some (position_or_len p xs) ≡ None = rw e at h in absurd cc
+  | inr e ↦ let past = ltb-false (position_or_len p xs) (length xs) e in
+      slice_split_none p xs (All-from_get_or (λ x. p x ≡ false) xs 0 (λ k l. fails_before_first p xs k 0 (omega (arith, past))))
 ]
 
 -- what is read so far, in front of what is read of the rest

@@ -3,17 +3,15 @@ ghost use Rattle.std.specs.Prelude.{◌≡◌, ◌++◌, ◌*◌, ◌≤◌, OnO
 ghost use Rattle.std.specs.List.{position, slice_split};
 ghost use Rattle.blocks.specs.Walk.{item};
 ghost use Rattle.hex.specs.Hex.{decode_sized, encode_lower};
-ghost use Rattle.commands.specs.Text.{blank_record, item_line, listed, listing_refusal, line_record, records_of_text, with_kind, Refuses, binary, wrong_line};
+ghost use Rattle.commands.specs.Text.{blank_record, item_line, listed, listing_refusal, line_record, records_of_text, with_kind, Refuses, TextsComeBack, binary, wrong_line};
 ghost use Rattle.commands.specs.declared.text.TextError.TheVariants.{Memory};
 ghost use Rattle.commands.specs.Streams.{Prints};
 
 use crate::streams::{gave_up, put};
 use blocks::{BadHeader, Reader, Record, Refusal};
 use std::alloc::{AllocError, Global};
-use std::error;
-use std::fmt;
-use std::io;
 use std::io::{Read, Write};
+use std::{error, fmt, io};
 
 // What a line of records has to have.
 #[derive(Clone, Copy, PartialEq, Eq, Debug)]
@@ -145,9 +143,11 @@ fn push_record(records: &mut Vec<u8>, line: &[u8]) -> Result<Option<Expected>, A
 
 // The records of a text, a line each: a word for the kind, and the body in hexadecimal, first octet first. Empty lines and
 // lines that begin with # say nothing.
+#[tactic(auto, using(crate::proofs::Returning::texts_come_back))]
 pub fn records_of_text(alloc: Global, text: &[u8]) -> Result<Vec<u8>, TextError>
     ensures records { IfOk result (λ v. records_of_text text.now ≡ Ok v.items) }
     ensures wrong { IfErr result (λ e. Refuses (records_of_text text.now) e) }
+    ensures law { TextsComeBack }
 {
     let mut records = Vec::new(alloc);
     let mut rest = text;
@@ -210,7 +210,10 @@ impl fmt::Display for Expected {
                 "one of data, control, bad00, bad11 and note, each with one space behind it, or a comment"
             ),
             Expected::Digits(count) => {
-                write!(f, "{count} hexadecimal digits behind the word, and nothing else")
+                write!(
+                    f,
+                    "{count} hexadecimal digits behind the word, and nothing else"
+                )
             }
         }
     }
