@@ -1,11 +1,11 @@
 -- Lines of a text, their records, and records that come back from their lines.
-use Rattle.std.proofs.Common.{◌≡◌, ℕ, zero, suc, ◌+◌, ◌-◌, ◌<◌, ◌≤◌, Bool, true, false, eqb, ltb, List, [], ◌∷◌, ◌++◌, length, take, drop, get_or, length-drop, append_assoc, append-nil, add-one, ap, ap₂, ◌∙◌, sym, refl, subst, inl, inr, Option, None, Some, Ok, Err, Result, MatchResult, MatchOption, arith}
+use Rattle.std.proofs.Common.{◌≡◌, ℕ, ◌+◌, ◌-◌, ◌<◌, Bool, false, eqb, ltb, List, [], ◌∷◌, ◌++◌, length, take, drop, append_assoc, append-nil, ap, ◌∙◌, sym, refl, inl, inr, Option, None, Some, Ok, Err, Result, MatchResult, MatchOption, arith}
 use Rattle.std.proofs.lemmas.Bool.{cases_Bool, ltb-true, ltb-false}
-use Rattle.std.proofs.lemmas.List.{take_all, take_rest}
+use Rattle.std.proofs.lemmas.List.{take_rest}
 use Rattle.std.proofs.lemmas.List.Elements.{All-from_get_or}
-use Rattle.std.proofs.lemmas.List.Splits.{slice_split_first, slice_split_none, slice_split_at}
+use Rattle.std.proofs.lemmas.List.Splits.{slice_split_first, slice_split_none}
 use Rattle.std.proofs.lemmas.List.Sums.{fails_before_first}
-use Rattle.std.specs.List.{position, position_or_len, slice_split, All}
+use Rattle.std.specs.List.{position, position_or_len, slice_split}
 use Rattle.commands.specs.Text.{line_record, then_records, records_in}
 use Rattle.commands.specs.declared.text.Expected.{Expected}
 use Rattle.commands.specs.declared.text.WrongLine.{WrongLine}

@@ -12,7 +12,7 @@ all_alike : alike 16 ≡ true
 unfolding alike
 all_alike = refl
 
-lower_digits_at : (n : ℕ) → n < 16 → slice_index lower_digits n ≡ digit n
+pub lower_digits_at : (n : ℕ) → n < 16 → slice_index lower_digits n ≡ digit n
 unfolding alike
 lower_digits_at =
     (Decides-below_and (λ n. slice_index lower_digits n == digit n) (λ n. slice_index lower_digits n ≡ digit n) alike (λ n. Decides-eqb (slice_index lower_digits n) (digit n)) refl (λ _. refl) 16).0 all_alike

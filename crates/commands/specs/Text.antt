@@ -1,8 +1,9 @@
 -- Records as lines of text, and back. Assumes nothing.
-use Rattle.std.specs.Prelude.{◌≡◌, ◌⊎◌, ℕ, zero, suc, ◌+◌, ◌*◌, Bool, true, false, if◌then◌else◌, List, [], ◌∷◌, ◌++◌, length, take, drop, codes, slice_index, Some, None, Ok, Err, Option, Result, ◌==◌, nat_eq}
+use Rattle.std.specs.Prelude.{◌≡◌, ℕ, zero, suc, ◌+◌, ◌*◌, Bool, true, false, if◌then◌else◌, List, [], ◌∷◌, ◌++◌, length, take, drop, codes, slice_index, Some, None, Ok, Err, Option, Result, ◌==◌, nat_eq}
 use Rattle.std.specs.List.{slice_split}
 use Rattle.std.specs.Cmp.Lexicographic.{pointwise}
-use Rattle.hex.specs.Hex.{encode_lower, decode_sized}
+use Rattle.hex.specs.Hex.{encode_lower, decode_sized, IsBytes}
+use Rattle.blocks.specs.Walk.{AllWhole, bytes}
 use Rattle.hex.specs.declared.error.FromHexError.{FromHexError}
 use Rattle.blocks.specs.declared.refusal.Refusal.{Refusal}
 use Rattle.blocks.specs.Records.{Item, data_item, control_item, bad_item, note_item, look}
@@ -108,3 +109,7 @@ wrong_in (Err wrong) = Some wrong
 
 abbrev pub wrong_line : List ℕ → Option WrongLine
 wrong_line text = wrong_in (records_of_text text)
+
+-- The text of any records is read back as these records.
+abbrev pub TextsComeBack : Type 0
+TextsComeBack = (rs : List Item) → AllWhole rs → IsBytes (bytes rs) → records_of_text (listed (bytes rs)) ≡ Ok (bytes rs)

@@ -3,7 +3,7 @@ ghost use Rattle.std.specs.Prelude.{◌≡◌, ◌++◌, ◌*◌, ◌≤◌, OnO
 ghost use Rattle.std.specs.List.{position, slice_split};
 ghost use Rattle.blocks.specs.Walk.{item};
 ghost use Rattle.hex.specs.Hex.{decode_sized, encode_lower};
-ghost use Rattle.commands.specs.Text.{blank_record, item_line, listed, listing_refusal, line_record, records_of_text, with_kind, Refuses, binary, wrong_line};
+ghost use Rattle.commands.specs.Text.{blank_record, item_line, listed, listing_refusal, line_record, records_of_text, with_kind, Refuses, TextsComeBack, binary, wrong_line};
 ghost use Rattle.commands.specs.declared.text.TextError.TheVariants.{Memory};
 ghost use Rattle.commands.specs.Streams.{Prints};
 
@@ -143,9 +143,11 @@ fn push_record(records: &mut Vec<u8>, line: &[u8]) -> Result<Option<Expected>, A
 
 // The records of a text, a line each: a word for the kind, and the body in hexadecimal, first octet first. Empty lines and
 // lines that begin with # say nothing.
+#[tactic(auto, using(crate::proofs::Returning::texts_come_back))]
 pub fn records_of_text(alloc: Global, text: &[u8]) -> Result<Vec<u8>, TextError>
     ensures records { IfOk result (λ v. records_of_text text.now ≡ Ok v.items) }
     ensures wrong { IfErr result (λ e. Refuses (records_of_text text.now) e) }
+    ensures law { TextsComeBack }
 {
     let mut records = Vec::new(alloc);
     let mut rest = text;

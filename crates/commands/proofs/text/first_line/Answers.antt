@@ -1,4 +1,4 @@
-use Rattle.std.proofs.Common.{◌≡◌, ◌∙◌, sym, eqb}
+use Rattle.std.proofs.Common.{◌∙◌, sym, eqb}
 use Rattle.commands.proofs.TextLines.{split_here, split_nowhere}
 use Rattle.commands.proofs.text.first_line.Goals as goal
 

@@ -1,6 +1,6 @@
-use Rattle.std.proofs.Common.{◌≡◌, ℕ, ◌+◌, List, [], ◌∷◌, ◌++◌, eqb, Ok, Err, None, Some, ap, ◌∙◌, sym, refl, rules, subst}
+use Rattle.std.proofs.Common.{◌≡◌, ℕ, ◌+◌, List, [], ◌∷◌, eqb, Ok, ap, ◌∙◌, sym}
 use Rattle.std.specs.List.{slice_split}
-use Rattle.commands.specs.Text.{line_record, records_in, records_of_text}
+use Rattle.commands.specs.Text.{line_record, records_in}
 use Rattle.commands.proofs.TextLines.{prepended, record_read, line_wrong, all_read, was_record, was_wrong, some_line}
 use Rattle.commands.proofs.text.records_of_text.Goals as goal
 

@@ -1,7 +1,7 @@
-use Rattle.std.proofs.Common.{rules, ◌≡◌, ℕ, ◌+◌, ◌<◌, List, ◌++◌, length, ap, ◌∙◌, sym, subst, Ok, Err, None, Some, refl, arith}
-use Rattle.blocks.specs.Records.{Item, look, rest_at, moved}
+use Rattle.std.proofs.Common.{rules, ◌≡◌, ◌+◌, ◌++◌, ap, ◌∙◌, sym, subst, Ok, Err, None, Some}
+use Rattle.blocks.specs.Records.{look, rest_at, moved}
 use Rattle.blocks.specs.Walk.{item, shown}
-use Rattle.commands.specs.Text.{item_line, listed, listing_refusal}
+use Rattle.commands.specs.Text.{item_line}
 use Rattle.commands.proofs.Listing.{Listed, fewer, listed_first, listed_next, listed_end, listed_refused}
 use Rattle.commands.proofs.text.text_of_records.Goals as goal
 

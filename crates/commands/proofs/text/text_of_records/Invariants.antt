@@ -1,5 +1,5 @@
 -- The records so far are listed; fewer bytes are left with each.
-use Rattle.std.proofs.Common.{◌≡◌, ℕ, length}
+use Rattle.std.proofs.Common.{◌≡◌, length}
 use Rattle.blocks.specs.Records.{rest_at}
 use Rattle.commands.proofs.Listing.{Listed}
 use Rattle.commands.proofs.text.text_of_records.Given as goal
