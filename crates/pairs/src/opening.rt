@@ -57,7 +57,8 @@ impl Message {
         ensures memory { pad_memory pad.new ≡ table 9 (pad_before (nth (pad_memory pad.old)) n) }
     {
         for _ in 0..n {
-            self.push_bits(u64::from(pad.next()), 1);
+            let bit = pad.next();
+            self.push_bits(u64::from(bit), 1);
         }
     }
 

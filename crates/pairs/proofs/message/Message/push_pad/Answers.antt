@@ -18,7 +18,7 @@ loop-preserved c =
     let memory : List ℕ = pad_memory c.loop.pad in
     let old : List ℕ = c.loop.self in
     record {
-      bits = pad_put past i memory c.loop.invariant.memory c.args.self.now old c.push_bits.new.self c.next.result (binary_field c.args.pad.now.memory 0 9) c.loop.invariant.bits c.next.ensures.bit
+      bits = pad_put past i memory c.loop.invariant.memory c.args.self.now old c.push_bits.new.self c.next-bit.result (binary_field c.args.pad.now.memory 0 9) c.loop.invariant.bits c.next-bit.ensures.bit
           (c.push_bits.ensures ∙ ap (λ (x : ℕ). message_with old (field x 0 1)) c.from.ensures);
-      memory = memory_more past i memory c.loop.invariant.memory (pad_memory c.next.new.self) c.next.ensures.memory;
+      memory = memory_more past i memory c.loop.invariant.memory (pad_memory c.next-bit.new.self) c.next-bit.ensures.memory;
     }
