@@ -7,7 +7,8 @@ use Rattle.std.proofs.lemmas.List.Splits.{slice_split_at}
 use Rattle.std.specs.List.{slice_split}
 use Rattle.hex.specs.Hex.{encode_lower, encode_with, lower_digits, decode_sized, IsBytes}
 use Rattle.hex.proofs.HexLemmas.{decode_pairs-encode_with, length-encode_with, IsDigits-lower_digits}
-use Rattle.blocks.specs.Records.{Item, data_item, control_item, bad_item, note_item, look, behind}
+use Rattle.blocks.specs.Records.{Item, data_item, control_item, bad_item, note_item, look}
+use Rattle.commands.specs.Walks.{behind}
 use Rattle.blocks.specs.Walk.{bytes_of, bytes, Whole, AllWhole}
 use Rattle.commands.specs.Text.{item_line, then_lines, lines_from, line_record, with_kind, then_records, records_in, records_of_text, TextsComeBack}
 

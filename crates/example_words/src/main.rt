@@ -5,8 +5,8 @@
 #![tactic(auto)]
 
 use anyhow::{Context, bail, ensure};
-use rates::{Rate200, Rate400};
 use pair::Pair;
+use rates::{Rate200, Rate400};
 use std::io::{BufRead, BufReader};
 
 mod pair;

@@ -3,9 +3,7 @@
 
 #[cfg(test)]
 mod tests {
-    use lanes::{
-        Cause, Event, Fault, Lock, Pad, Rate, found_lane, passes, period,
-    };
+    use lanes::{Cause, Event, Fault, Lock, Pad, Rate, found_lane, passes, period};
     use rates::{Rate200, Rate400, RateShort};
     use sender::{Refusal, Sender};
     use std::process::Abort;
