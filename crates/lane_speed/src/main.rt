@@ -3,6 +3,7 @@
 #![tactic(auto)]
 
 use lanes::{Event, Lock, Rate};
+use pairs::STRIP_BYTES;
 use rates::{Rate200, Rate400};
 use sender::Sender;
 use std::env;
@@ -37,7 +38,7 @@ fn send<R: Rate>() -> anyhow::Result<u64> {
     for octet in records.as_flattened_mut() {
         *octet = (sequence.next() % 4) as u8;
     }
-    let mut strip = [0; 1360];
+    let mut strip = [0; STRIP_BYTES];
     let mut sum = 0u64;
     for _ in 0..SENDS {
         let blocks = sender.block_count().min(160);

@@ -4,6 +4,7 @@
 #[cfg(test)]
 mod tests {
     use lanes::{Cause, Event, Fault, Lock, Pad, Rate, found_lane, passes, period};
+    use pairs::{LanePlace, STRIP_BYTES, WordPlace};
     use rates::{Rate200, Rate400, RateShort};
     use sender::{Refusal, Sender};
     use std::process::Abort;
@@ -12,12 +13,9 @@ mod tests {
     // A control block of type 1E and seven zero octets.
     const IDLE: [u8; 9] = [1, 0x1E, 0, 0, 0, 0, 0, 0, 0];
 
-    // The bytes of a pair on all lanes.
-    const STRIP: usize = 1360;
-
     // Sends a pair of idle blocks, and answers its strip.
-    fn send_idle<R: Rate>(sender: &mut Sender<R>) -> Result<[u8; STRIP], Fail> {
-        let mut strip = [0; STRIP];
+    fn send_idle<R: Rate>(sender: &mut Sender<R>) -> Result<[u8; STRIP_BYTES], Fail> {
+        let mut strip = [0; STRIP_BYTES];
         let records = [IDLE; 160];
         let blocks = sender.block_count().min(160);
         sender.send(records[..blocks].as_flattened(), &mut strip)?;
@@ -35,7 +33,7 @@ mod tests {
     // Each lane begins with its marker, and passes for that lane alone.
     fn begins_with_markers<R: Rate>(rt: &impl Abort) -> Result<(), Fail> {
         let strip = send_idle(&mut Sender::<R>::new(1, 1, 0)?)?;
-        for (lane, part) in strip.chunks_exact(STRIP / R::LANES).enumerate() {
+        for (lane, part) in strip.chunks_exact(STRIP_BYTES / R::LANES).enumerate() {
             assert!(rt; part.starts_with(&R::marker(lane)));
             assert_eq!(rt; found_lane::<R>(window(part)), Some(lane));
         }
@@ -91,18 +89,18 @@ mod tests {
     fn a_refused_send_changes_nothing(rt: HostRuntime) -> Result<(), Fail> {
         let mut sender = Sender::<Rate400>::new(1, 2, 3)?;
         let mut records = [IDLE; 129];
-        let mut strip = [0xA5; STRIP];
+        let mut strip = [0xA5; STRIP_BYTES];
         records[7][0] = 4;
         let send = |sender: &mut Sender<Rate400>, blocks: usize, strip: &mut [u8]| {
             sender.send(records[..blocks.min(129)].as_flattened(), strip)
         };
-        let short = send(&mut sender, 129, &mut strip[..STRIP - 1]);
+        let short = send(&mut sender, 129, &mut strip[..STRIP_BYTES - 1]);
         assert_eq!(rt; short, Err(Refusal::Buffer));
         let long = send(&mut sender, 129, &mut strip);
         assert_eq!(rt; long, Err(Refusal::Blocks(blocks::Refusal::Length)));
         let kind = send(&mut sender, 128, &mut strip);
         assert_eq!(rt; kind, Err(Refusal::Blocks(blocks::Refusal::Kind(7))));
-        assert!(rt; strip == [0xA5; STRIP]);
+        assert!(rt; strip == [0xA5; STRIP_BYTES]);
         let after = send_idle(&mut sender)?;
         let alone = send_idle(&mut Sender::<Rate400>::new(1, 2, 3)?)?;
         assert!(rt; after == alone);
@@ -111,11 +109,32 @@ mod tests {
 
     #[test]
     fn bytes_behind_a_strip_stay(rt: HostRuntime) -> Result<(), Fail> {
-        let mut strip = [0xA5; STRIP + 3];
+        let mut strip = [0xA5; STRIP_BYTES + 3];
         let records = [IDLE; 144];
         let mut sender = Sender::<Rate200>::new(0, 1, 0)?;
-        assert_eq!(rt; sender.send(records.as_flattened(), &mut strip), Ok(STRIP));
+        assert_eq!(rt;
+            sender.send(records.as_flattened(), &mut strip),
+            Ok(STRIP_BYTES)
+        );
         assert!(rt; strip.ends_with(&[0xA5; 3]));
+        Ok(())
+    }
+
+    #[test]
+    fn places_in_the_words_and_on_the_lanes(rt: HostRuntime) -> Result<(), Fail> {
+        let word = |word, index| WordPlace { word, index };
+        let lane = |lane, row| LanePlace { lane, row };
+        // A stands on the even lanes in even rows, and on the odd ones in odd rows.
+        assert_eq!(rt; word(0, 0).on_lane::<Rate200>(), Some(lane(0, 0)));
+        assert_eq!(rt; word(1, 3).on_lane::<Rate200>(), Some(lane(7, 0)));
+        assert_eq!(rt; word(0, 4).on_lane::<Rate200>(), Some(lane(1, 1)));
+        assert_eq!(rt; word(1, 543).on_lane::<Rate400>(), Some(lane(14, 67)));
+        assert_eq!(rt; word(2, 0).on_lane::<Rate200>(), None);
+        assert_eq!(rt; word(1, 544).on_lane::<Rate200>(), None);
+        assert_eq!(rt; lane(0, 1).in_word::<Rate200>(), Some(word(1, 4)));
+        assert_eq!(rt; lane(15, 67).in_word::<Rate400>(), Some(word(0, 543)));
+        assert_eq!(rt; lane(8, 0).in_word::<Rate200>(), None);
+        assert_eq!(rt; lane(7, 136).in_word::<Rate200>(), None);
         Ok(())
     }
 

@@ -14,7 +14,7 @@ use Rattle.blocks.specs.declared.block.Block.{Block}
 use Rattle.lanes.specs.Lawful.{Lawful}
 use Rattle.lanes.specs.Rates.{Layout, pair_bits}
 use Rattle.pairs.specs.Laws.{Sendable, ComesBack}
-use Rattle.pairs.specs.Messages.{pad_size, group_stream, message, sent_message, word}
+use Rattle.pairs.specs.Messages.{pad_size, group_stream, message, sent_stream, sent_message, word}
 use Rattle.pairs.specs.Packing.{Lanes}
 use Rattle.pairs.specs.Returns.{word_back}
 use Rattle.pairs.specs.Strips.{pair_bit}
@@ -66,16 +66,16 @@ stream_taken bs n h =
     sym (stream_front (take (4 * n) bs) (drop (4 * n) bs) n (omega arith)) ∙ ap (λ (l : List Block). group_stream l n) (take-append-drop (4 * n) bs)
 
 module _ (r : Layout) (wide : Lanes r.lanes) (st : Start) (cs : List Send) (p : ℕ) (inside : p < pairs_sent r cs) where
-  abbrev blocks : List Block
+  abbrev pub blocks : List Block
   blocks = sent_blocks r cs
 
-  abbrev all : ℕ
+  abbrev pub all : ℕ
   all = groups_before r (pairs_sent r cs)
 
-  abbrev start : ℕ
+  abbrev pub start : ℕ
   start = groups_before r p
 
-  abbrev count : ℕ
+  abbrev pub count : ℕ
   count = groups_at r p
 
   blocks_size : length blocks ≡ 4 * all
@@ -102,9 +102,10 @@ module _ (r : Layout) (wide : Lanes r.lanes) (st : Start) (cs : List Send) (p : 
     payloads = payloads-take (4 * count) (drop (4 * start) blocks) (payloads-drop (4 * start) blocks payloads_all);
   }
 
-  sent : message_at r st cs p ≡ sent_message r (pair_at r st cs p)
-  unfolding message_at sent_message whole_stream
-  sent =
+  -- its scrambled groups are its part of the whole stream
+  pub part : take (257 * count) (drop (257 * start) (whole_stream r st cs)) ≡ scrambled_bits (scrambler_after (field st.scramble 0 58) (group_stream blocks start)) (sent_stream r.lanes (pair_at r st cs p))
+  unfolding whole_stream
+  part =
       let m : List ℕ = field st.scramble 0 58 in
       let behind : List Block = drop (4 * start) blocks in
       let rest : ℕ = all - (start + count) in
@@ -115,10 +116,13 @@ module _ (r : Layout) (wide : Lanes r.lanes) (st : Start) (cs : List Send) (p : 
       let whole : group_stream blocks all ≡ group_stream blocks start ++ (here ++ later) =
       ap (group_stream blocks) split ∙ stream_split blocks start (count + rest) (omega (arith, blocks_size))
       ∙ ap (λ (l : List ℕ). group_stream blocks start ++ l) (stream_split behind count rest (omega arith)) in
-      ap (λ (l : List ℕ). message r (opens_at r.pairs p) (pads_at r st p) st.status l)
-      (ap (λ (l : List ℕ). take (257 * count) (drop (257 * start) (scrambled_bits m l))) whole
+      ap (λ (l : List ℕ). take (257 * count) (drop (257 * start) (scrambled_bits m l))) whole
       ∙ scrambled_part m (group_stream blocks start) here later (257 * start) (257 * count) (length_stream blocks start (omega (arith, blocks_size))) (length_stream behind count (omega arith))
-      ∙ ap (scrambled_bits (scrambler_after m (group_stream blocks start))) (sym (stream_taken behind count (omega arith))))
+      ∙ ap (scrambled_bits (scrambler_after m (group_stream blocks start))) (sym (stream_taken behind count (omega arith)))
+
+  sent : message_at r st cs p ≡ sent_message r (pair_at r st cs p)
+  unfolding message_at sent_message
+  sent = ap (λ (l : List ℕ). message r (opens_at r.pairs p) (pads_at r st p) st.status l) part
 
   binary_at : Binary (message_at r st cs p)
   binary_at = subst Binary (sym sent) (binary_sent r wide (pair_at r st cs p) sendable)
