@@ -2,8 +2,11 @@
 // The argument is how many symbols are changed, 15 where there is none.
 #![tactic(auto)]
 
-use code::{Engine, FullEngine, Refusal};
+use anyhow::Context;
+use code::{Engine, FullEngine};
 use std::env;
+
+mod report;
 
 // Symbols that are the same on every run. The program code_cases has a copy: a crate for both would be longer.
 #[derive(Drop)]
@@ -34,18 +37,14 @@ fn damage(
     Ok(())
 }
 
-fn report(rt: &HostRuntime, answer: Result<usize, Refusal>, restored: bool) -> anyhow::Result<()> {
-    match answer {
-        Ok(count) => println!(rt; "corrected {count} symbols; the word sent is back: {restored}")?,
-        Err(e) => println!(rt; "refused: {e}")?,
-    }
-    Ok(())
-}
-
 fn main(rt: HostRuntime) -> anyhow::Result<()> {
-    let count = env::args(&rt)?
-        .skip(1)
-        .try_fold(15usize, |_, text| text.as_str().parse())?;
+    let mut count = 15usize;
+    for word in env::args(&rt)?.skip(1) {
+        count = word
+            .as_str()
+            .parse()
+            .context(format_args!("{word:?} is no count of symbols"))?;
+    }
     let mut sequence = Sequence { seed: 1 };
     let mut message = [0u16; 514];
     message.fill_with(|| sequence.symbol());
@@ -55,5 +54,7 @@ fn main(rt: HostRuntime) -> anyhow::Result<()> {
     let sent = word;
     damage(&rt, &mut word, count.min(544), sequence)?;
     let answer = FullEngine::new().correct(&mut word);
-    report(&rt, answer, sent == word)
+    let text = report::report(rt.alloc(), answer, sent == word)?;
+    print!(rt; "{text}")?;
+    Ok(())
 }
