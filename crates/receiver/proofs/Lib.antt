@@ -1,0 +1,12 @@
+pub mod Turn
+pub mod Windows
+pub mod Stray
+pub mod Moving
+pub mod Judging
+pub mod Skews
+pub mod Quiet
+pub mod Advancing
+pub mod Ticking
+pub mod Hearing
+pub mod Verdicts
+pub mod Lawful

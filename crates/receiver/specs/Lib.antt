@@ -1,0 +1,11 @@
+pub mod Counts
+pub mod Faults
+pub mod Refusals
+pub mod Recent
+pub mod Positions
+pub mod Skews
+pub mod Hunts
+pub mod Laws
+pub mod Pending
+pub mod Turns
+pub mod Steps
