@@ -8,7 +8,7 @@ import sys
 
 TOP = os.path.normpath(os.path.join(os.path.dirname(os.path.abspath(__file__)), "..", ".."))
 LINK = re.compile(r"\[([^\]]*)\]\(([^)]+)\)")
-DEFINED = r"^(?:abbrev |unfoldable )?pub (?:record |data )?"
+DEFINED = r"^ *(?:abbrev |unfoldable )?pub (?:record |data )?"
 
 
 def read(path):
