@@ -2,6 +2,8 @@ pub mod Walks
 pub mod Listing
 pub mod Printing
 pub mod Records
+pub mod Repairs
 pub mod Returning
+pub mod Rows
 pub mod TextLines
 pub mod Texts

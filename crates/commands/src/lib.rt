@@ -3,10 +3,14 @@
 
 mod groups;
 mod line;
+mod repair;
 mod streams;
 mod text;
+mod words;
 
 pub use groups::print_groups;
+pub use repair::print_repair;
 pub use text::{
     Expected, TextError, WrongLine, print_records, print_text, records_of_text, text_of_records,
 };
+pub use words::{RowsError, WrongRow, print_rows};
