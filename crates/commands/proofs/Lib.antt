@@ -1,9 +1,11 @@
 pub mod Walks
+pub mod LaneParts
 pub mod Listing
 pub mod Printing
 pub mod Records
 pub mod Repairs
 pub mod Returning
 pub mod Rows
+pub mod Sends
 pub mod TextLines
 pub mod Texts

@@ -16,7 +16,7 @@ use Rattle.commands.specs.Streams.{AppendsFront, Prints}
 use Rattle.commands.proofs.Records.{refused_from, not_refused_from, not_refused, refused_at_end}
 
 -- What a writer holds grew by s, and then by a part of t.
-front_more : (a b c : Option (List ℕ)) (s t left text : List ℕ) → text ≡ s ++ (t ++ left) → Appends a b s → AppendsFront b c t → AppendsFront a c text
+pub front_more : (a b c : Option (List ℕ)) (s t left text : List ℕ) → text ≡ s ++ (t ++ left) → Appends a b s → AppendsFront b c t → AppendsFront a c text
 front_more a b c s t left text e p (done, rest, f, q) = (
   s ++ done,
   rest ++ left,
@@ -24,7 +24,7 @@ front_more a b c s t left text e p (done, rest, f, q) = (
   Appends-trans a b c s done p q,
 )
 
-front_here : (a b : Option (List ℕ)) (s left text : List ℕ) → text ≡ s ++ left → Appends a b s → AppendsFront a b text
+pub front_here : (a b : Option (List ℕ)) (s left text : List ℕ) → text ≡ s ++ left → Appends a b s → AppendsFront a b text
 front_here a b s left text e p = (s, left, e, p)
 
 abbrev pub group_text : List ℕ → List ℕ

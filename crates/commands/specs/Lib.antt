@@ -5,3 +5,4 @@ pub mod Lines
 pub mod Repair
 pub mod Streams
 pub mod Text
+pub mod Strips

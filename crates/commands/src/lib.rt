@@ -5,11 +5,13 @@ mod groups;
 mod line;
 mod repair;
 mod streams;
+mod strips;
 mod text;
 mod words;
 
 pub use groups::print_groups;
 pub use repair::print_repair;
+pub use strips::{Sent, StripError, send_strips};
 pub use text::{
     Expected, TextError, WrongLine, print_records, print_text, records_of_text, text_of_records,
 };

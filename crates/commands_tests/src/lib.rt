@@ -3,7 +3,9 @@
 
 #[cfg(test)]
 mod tests {
-    use commands::{print_groups, print_records, print_text};
+    use commands::{StripError, print_groups, print_records, print_text, send_strips};
+    use rates::Rate200;
+    use sender::Sender;
     use std::alloc::Global;
     use std::io;
     use std::io::{Error, ErrorKind, Read, Write};
@@ -172,6 +174,33 @@ mod tests {
         let mut out = writer(rt.alloc(), 1000);
         assert!(rt; print_text(rt.alloc(), &mut input, &mut out).is_err());
         assert!(rt; out.bytes.is_empty());
+        Ok(())
+    }
+
+    fn eight_writers(alloc: Global) -> Result<Vec<Narrow>, Fail> {
+        let mut lanes = Vec::new(alloc);
+        for _ in 0..8u32 {
+            lanes.push(writer(alloc, 1000))?;
+        }
+        Ok(lanes)
+    }
+
+    #[test]
+    fn pairs_come_a_byte_at_a_time_up_to_a_failed_read(rt: HostRuntime) -> Result<(), Fail> {
+        let records = [2; 9 * 464];
+        for (count, parts) in [(0, 0), (1, 0), (1296, 1), (1297, 1), (2736, 2), (4176, 3)] {
+            let mut sender = Sender::<Rate200>::new(1, 1, 1)?;
+            let mut lanes = eight_writers(rt.alloc())?;
+            let mut input = Slow {
+                bytes: &records[..count],
+                fails: true,
+            };
+            let sent = send_strips(&mut sender, &mut input, lanes.as_mut_slice());
+            assert!(rt;
+                matches!(sent, Err(StripError::Input(e)) if e.kind() == ErrorKind::BrokenPipe)
+            );
+            assert!(rt; lanes.iter().all(|lane| lane.bytes.len() == 170 * parts));
+        }
         Ok(())
     }
 }

@@ -1,14 +1,15 @@
 // The file of one lane. It is written under a fresh name beside its own and put in place when it is whole, so that no file
 // that is there is ever opened for writing.
-ghost use Rattle.std.specs.Prelude.{◌≡◌, ℕ, List, [], ◌++◌, IfOk};
+ghost use Rattle.std.specs.Prelude.{◌≡◌, ℕ, List, [], ◌++◌, IfOk, MatchResult, take};
+ghost use Rattle.std.specs.Io.{WritesAtMost};
 ghost use Rattle.sha2.specs.Hashers.{Holds256};
 ghost use Rattle.sha2.specs.Sha256.{sha256};
 
 use anyhow::{Context, bail};
 use sha2::{Digest, Sha256};
-use std::fs;
 use std::fs::File;
 use std::io::{BufWriter, ErrorKind, Write};
+use std::{fs, io};
 
 // How many names are tried for a fresh file.
 const NAMES: u32 = 100;
@@ -50,14 +51,8 @@ impl LaneFile {
         })
     }
 
-    // Puts octets behind those that are in.
-    pub(crate) fn append(&mut self, octets: &[u8]) -> anyhow::Result<()>
-        ensures { (m : List ℕ) → Holds256 self.old.digest m → Holds256 self.new.digest (m ++ octets.now) }
-    {
-        self.digest.update(octets);
-        self.out
-            .write_all(octets)
-            .context(format_args!("writing {}", self.path))
+    pub(crate) fn path(&self) -> &str {
+        self.path.as_str()
     }
 
     // Hands what is buffered to the system, and waits until it is stored.
@@ -96,5 +91,24 @@ impl LaneFile {
         ensures { (m : List ℕ) → Holds256 self.digest m → result.1 ≡ sha256 m }
     {
         (self.path, self.digest.finalize())
+    }
+}
+
+impl Write for LaneFile {
+    // Puts octets behind those that are in.
+    fn write(&mut self, octets: &[u8]) -> io::Result<usize>
+        ensures bound { WritesAtMost result octets.now }
+        ensures digest { (m : List ℕ) → Holds256 self.old.digest m → MatchResult result (λ n. Holds256 self.new.digest (m ++ take n octets.now)) (λ _. self.new.digest ≡ self.old.digest) }
+    {
+        let n = self.out.write(octets)?;
+        self.digest.update(&octets[..n]);
+        Ok(n)
+    }
+
+    // Hands what is buffered to the system.
+    fn flush(&mut self) -> io::Result<()>
+        ensures { self.new.digest ≡ self.old.digest }
+    {
+        self.out.flush()
     }
 }

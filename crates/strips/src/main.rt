@@ -3,8 +3,10 @@
 
 use anyhow::{Context, bail, ensure};
 use arguments::{Arguments, RateName};
+use commands::{Sent, StripError, send_strips};
 use lane_file::LaneFile;
 use lanes::Rate;
+use pairs::STRIP_BYTES;
 use rates::{Rate200, Rate400, RateShort};
 use sender::{Refusal, Sender};
 use std::fs;
@@ -15,72 +17,24 @@ use std::os::unix::fs::MetadataExt;
 mod arguments;
 mod lane_file;
 
-// The bytes of a pair on all lanes.
-const STRIP_BYTES: usize = 1360;
-
-// The bytes of a block's record.
-const RECORD_BYTES: u64 = 9;
-
 // The name by which the system tells of standard input.
 const STDIN: &str = "/dev/stdin";
 
-// What was sent, up to a refusal or to the end of the input.
-#[derive(Clone, Copy)]
-struct Sent {
-    pairs: usize,
-    blocks: usize,
-    refused: Option<Refusal>,
-}
-
-// The refusal with the place of a kind counted from the first record of the input, of which so many went before.
-fn placed(refusal: Refusal, before: usize) -> Refusal {
-    match refusal {
-        Refusal::Blocks(blocks::Refusal::Kind(index)) => {
-            Refusal::Blocks(blocks::Refusal::Kind(before.saturating_add(index)))
-        }
-        other => other,
-    }
-}
-
-// Sends the records of the input, a pair at a time, and appends each lane's part of the strip to its file.
+// Sends what the input has to the lanes' files, and says where it failed.
 fn send_all<R: Rate>(
-    rt: &HostRuntime,
     sender: &mut Sender<R>,
     input: &mut impl Read,
     files: &mut [LaneFile],
 ) -> anyhow::Result<Sent> {
-    let mut sent = Sent {
-        pairs: 0,
-        blocks: 0,
-        refused: None,
-    };
-    let mut records = Vec::new(rt.alloc());
-    let mut strip = [0; STRIP_BYTES];
-    for _ in 0u64.. {
-        records.clear();
-        let count = sender.block_count();
-        let n = input
-            .by_ref()
-            .take(RECORD_BYTES.saturating_mul(count as u64))
-            .read_to_end(&mut records)
-            .context("reading the blocks")?;
-        if n == 0 {
-            break;
+    match send_strips(sender, input, files) {
+        Ok(sent) => Ok(sent),
+        Err(StripError::Input(e)) => Err(e).context("reading the blocks"),
+        Err(StripError::Lane(lane, e)) => {
+            let path = files.get(lane).map_or("a lane", |file| file.path());
+            Err(e).context(format_args!("writing {path}"))
         }
-        if let Err(refusal) = sender.send(records.as_slice(), &mut strip) {
-            sent.refused = Some(placed(refusal, sent.blocks));
-            break;
-        }
-        for (file, part) in files
-            .iter_mut()
-            .zip(strip.chunks_exact(STRIP_BYTES / R::LANES))
-        {
-            file.append(part)?;
-        }
-        sent.pairs = sent.pairs.saturating_add(1);
-        sent.blocks = sent.blocks.saturating_add(count);
+        Err(StripError::Lanes) => bail!("there is not a file for each lane"),
     }
-    Ok(sent)
 }
 
 // Prints a refusal as the last line; the program ends with status 1.
@@ -146,7 +100,7 @@ fn write_lanes<R: Rate>(
     for path in paths {
         files.push(LaneFile::create(rt, path)?)?;
     }
-    let sent = send_all(rt, sender, input, files)?;
+    let sent = send_all(sender, input, files)?;
     for file in files.iter_mut() {
         file.store()?;
     }
