@@ -1,8 +1,7 @@
 -- A walk over a buffer, a line a record.
-use Rattle.std.proofs.Common.{◌≡◌, ℕ, zero, suc, ◌+◌, ◌<◌, ◌≤◌, true, false, List, [], ◌∷◌, ◌++◌, length, drop, length-drop, append_assoc, append-nil, add-one, ap, ap₂, ◌∙◌, sym, refl, inl, inr, Option, None, Some, Ok, Err, Result, arith}
-use Rattle.std.proofs.lemmas.Bool.{cases_Bool}
+use Rattle.std.proofs.Common.{◌≡◌, ℕ, zero, suc, ◌+◌, ◌<◌, List, [], ◌∷◌, ◌++◌, length, length-drop, append_assoc, append-nil, add-one, ap, ap₂, ◌∙◌, sym, None, Some, Ok, Err, arith}
 use Rattle.blocks.specs.declared.refusal.Refusal.{Refusal}
-use Rattle.blocks.specs.Records.{Item, look, rest_at, record_size, known, size_of}
+use Rattle.blocks.specs.Records.{Item, look, rest_at, size_of}
 use Rattle.blocks.specs.Refusals.{text_of}
 use Rattle.commands.specs.Walks.{behind}
 use Rattle.commands.proofs.Walks.{rest_first, rest_next}

@@ -10,7 +10,7 @@ use Rattle.blocks.specs.Blocks.{blocks_in}
 use Rattle.blocks.specs.Groups.{group_bits, group_octets}
 use Rattle.blocks.specs.Records.{look, rest_at, known, size_of, item_of}
 use Rattle.commands.specs.Walks.{behind}
-use Rattle.commands.proofs.Walks.{behind_first, rest_first, rest_next}
+use Rattle.commands.proofs.Walks.{rest_first, rest_next}
 use Rattle.commands.specs.Groups.{no_block, unwanted, first_refused, first_of}
 
 pub answered_ok : {A : Type 0} (a x : A) (o : Option Refusal) → outcome_of a o ≡ Ok x → (o ≡ None) × (x ≡ a)

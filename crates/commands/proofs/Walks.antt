@@ -1,5 +1,5 @@
 -- Where each record of a buffer begins.
-use Rattle.std.proofs.Common.{◌≡◌, ℕ, suc, ◌+◌, List, ◌∷◌, drop, sym, refl, ap, ◌∙◌, one-add, add-one}
+use Rattle.std.proofs.Common.{◌≡◌, ℕ, ◌+◌, List, ◌∷◌, drop, sym, refl, ap, ◌∙◌, one-add, add-one}
 use Rattle.std.proofs.lemmas.List.{drop-drop}
 use Rattle.blocks.specs.Records.{size_of, record_size, offset_of, rest_at}
 use Rattle.commands.specs.Walks.{behind}
