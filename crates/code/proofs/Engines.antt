@@ -6,7 +6,7 @@ use Rattle.code.specs.declared.refusal.Refusal.TheVariants.{Length, Symbol, Reac
 use Rattle.code.specs.Code.{distance}
 use Rattle.code.specs.Code.{WellFormed, codeword_near}
 use Rattle.code.specs.Answers.{refusal_of, unless, correction, corrected_count, corrected_word}
-use Rattle.code.specs.Laws.{IsLowestLarge, Malformed, Refused, Repaired, Corrected, EngineLaws}
+use Rattle.code.specs.Laws.{IsLowestLarge, Malformed, Refused, Repaired, Corrected, AnswersAgree, EngineLaws}
 use Rattle.std.specs.Option.{ok_or}
 use Rattle.std.specs.Result.{result_map_both, result_unwrap_or}
 use Rattle.code.proofs.Existing.{each_encodes}
@@ -41,13 +41,13 @@ same_refusal reach w Reach (Symbol j) p q = absurd (not_formed w j q.1 p.0)
 same_refusal reach w Reach Reach p q = refl
 
 -- two outcomes that engines of one reach may have are the same
-outcomes_agree : (reach : ℕ) → reach ≤ 15 → (w v u : List ℕ) (r s : Result ℕ Refusal) → Corrected reach w v r → Corrected reach w u s → (v ≡ u) × (r ≡ s)
-outcomes_agree reach h w v u (Ok n) (Ok m) p q =
+pub engines_agree : AnswersAgree
+engines_agree reach h w v u (Ok n) (Ok m) p q =
     let e : v ≡ u = far_apart.single reach h w v u p.codeword q.codeword (let d = p.changed in let l = p.within in omega arith) (let d = q.changed in let l = q.within in omega arith) in
     (e, ap Ok (sym p.changed ∙ ap (distance w) e ∙ q.changed))
-outcomes_agree reach h w v u (Ok n) (Err e) p q = absurd (never reach w v n e p q.1)
-outcomes_agree reach h w v u (Err d) (Ok m) p q = absurd (never reach w u m d q p.1)
-outcomes_agree reach h w v u (Err d) (Err e) p q = (p.0 ∙ sym q.0, ap Err (same_refusal reach w d e p.1 q.1))
+engines_agree reach h w v u (Ok n) (Err e) p q = absurd (never reach w v n e p q.1)
+engines_agree reach h w v u (Err d) (Ok m) p q = absurd (never reach w u m d q p.1)
+engines_agree reach h w v u (Err d) (Err e) p q = (p.0 ∙ sym q.0, ap Err (same_refusal reach w d e p.1 q.1))
 
 -- a word that is not well formed is refused for that
 pub malformed_refused : (reach : ℕ) (w : List ℕ) (e : Refusal) → Malformed 544 w e → Refused reach w e
@@ -88,7 +88,7 @@ engine_laws reach small = record {
 }
   where
     alone : (w v : List ℕ) (r : Result ℕ Refusal) → Corrected reach w v r → (v ≡ corrected_word reach w) × (r ≡ corrected_count reach w)
-    alone w v r h = outcomes_agree reach small w v (corrected_word reach w) r (corrected_count reach w) h (corrects reach w)
+    alone w v r h = engines_agree reach small w v (corrected_word reach w) r (corrected_count reach w) h (corrects reach w)
 
 -- an outcome of an engine, as its contract says it
 pub record Engines (reach : ℕ) (w v : List ℕ) (r : Result ℕ Refusal) : Type 0 where

@@ -35,6 +35,15 @@ abbrev pub Corrected : ℕ → List ℕ → List ℕ → Result ℕ Refusal → 
 Corrected reach entry exit (Ok n) = Repaired reach entry exit n
 Corrected reach entry exit (Err e) = (exit ≡ entry) × Refused reach entry e
 
+-- what is answered to a word, and how it is left, follows from the reach alone
+abbrev pub AnswersAgree : Type 0
+AnswersAgree =
+    (reach : ℕ) → reach ≤ 15 → (w v u : List ℕ) (r s : Result ℕ Refusal) → Corrected reach w v r → Corrected reach w u s → (v ≡ u) × (r ≡ s)
+
+-- an engine of reach 0 leaves every word as it is
+abbrev pub WatchingKeeps : Type 0
+WatchingKeeps = (w v : List ℕ) (r : Result ℕ Refusal) → Corrected 0 w v r → v ≡ w
+
 -- Codewords lie far apart: those that differ in at most 30 symbols are equal,
 -- so within a reach of at most 15 of a word there is at most one.
 pub record FarApart : Type 0 where

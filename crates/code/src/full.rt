@@ -1,7 +1,7 @@
 // The engine of reach 15, by the decoder over any field.
 ghost use Rattle.std.specs.Prelude.{◌≡◌, ◌<◌, length, MatchResult};
 ghost use Rattle.code.specs.Code.{distance};
-ghost use Rattle.code.specs.Laws.{Refused};
+ghost use Rattle.code.specs.Laws.{AnswersAgree, Refused};
 ghost use Rattle.code.specs.Lifting.{at, Loaded, Stored, ProposedWord};
 ghost use Rattle.code.specs.Division.{RegisterValues, WordSyndromes};
 ghost use Rattle.std.proofs.Common.{lit≤};
@@ -26,7 +26,10 @@ pub struct FullEngine {
 }
 
 impl FullEngine {
-    pub fn new() -> FullEngine {
+    // The contract says of any two engines that the same reach brings the same answers.
+    pub fn new() -> FullEngine
+        ensures { AnswersAgree }
+    {
         let zero = gf1024::from_bits(0);
         let row = Row {
             degree: 0,

@@ -1,4 +1,5 @@
 // The engine of reach 0: it changes no word, and tells whether one is a codeword.
+ghost use Rattle.code.specs.Laws.{WatchingKeeps};
 ghost use Rattle.std.proofs.Common.{lit≤};
 
 use super::engine::Engine;
@@ -9,7 +10,10 @@ use super::symbols::Word;
 pub struct WatchEngine {}
 
 impl WatchEngine {
-    pub fn new() -> WatchEngine {
+    // The contract says of any engine of reach 0 that no word is changed.
+    pub fn new() -> WatchEngine
+        ensures { WatchingKeeps }
+    {
         WatchEngine {}
     }
 }
