@@ -1,6 +1,6 @@
 -- Elements with the same number are equal, so the laws of the numbers are those of the elements. The implementation cites them.
-use Rattle.std.specs.Prelude.{◌≡◌, ℕ, suc, ◌<◌, ◌≢◌}
-use Rattle.std.proofs.Common.{ap, ⊎_elim, eq-zero-or-pos, arith}
+use Rattle.std.specs.Prelude.{◌≡◌, ℕ, suc, ◌<◌, Bool, true, false, T, MatchBool, ◌==◌, ◌≢◌, nat_eq, refl}
+use Rattle.std.proofs.Common.{sym, ◌∙◌, ap, subst, ⊎_elim, eq-zero-or-pos, arith, eqb→eq}
 use mathlib.Core.HLevel.{is_prop→PathP}
 use Rattle.std.proofs.Math.Bridge.{le_prop}
 use Rattle.std.specs.Int.Bits.{xor_assoc, xor_self, xor_zero_l}
@@ -34,3 +34,11 @@ field_laws = record {
   inverse = λ x h. same _ _ (times_inverse x.value (positive x h) x.small);
   proper = λ e. (let q : ◌≡◌ {A = ℕ} 1 0 = ap (λ (x : Element). x.value) e in omega arith);
 }
+
+-- an element is zero exactly if its number is
+pub zero_test : (x : Element) → MatchBool (x.value == 0) (x ≡ group.zero) (x ≢ group.zero)
+zero_test x = go (x.value == 0) refl
+  where
+    go : (b : Bool) → (x.value == 0) ≡ b → MatchBool b (x ≡ group.zero) (x ≢ group.zero)
+    go true e = same x group.zero (eqb→eq x.value 0 (rw e tt))
+    go false e = λ h. subst (λ (b : Bool). T b) (sym (ap (λ (y : Element). nat_eq y.value 0) h) ∙ e) tt

@@ -5,7 +5,7 @@ use Rattle.std.proofs.lemmas.Bool.{ltb-true, leb-true, eqb-true, and_parts, case
 use Rattle.std.proofs.lemmas.Bool.Decides.{nat_tests}
 use Rattle.bits.specs.Bits.{table, nth}
 use Rattle.lanes.specs.Markers.{marker_at, nibble_of, wrong, own}
-use Rattle.lanes.specs.Letters.{marker_from, octet_in, layout_of, letters_sixteen}
+use Rattle.lanes.specs.Letters.{marker_from, octet_in, layout_of, letters_eight, letters_sixteen}
 use Rattle.lanes.specs.Rates.{marker_period}
 use Rattle.lanes.specs.Lawful.{Form, Lawful}
 use Rattle.bits.specs.Every.{every, every_two}
@@ -73,3 +73,24 @@ lawful t pairs e =
 pub eight_of_twelve : wrong (nibble_of (octet_in letters_sixteen 0)) (nibble_of (octet_in letters_sixteen 8)) own ≡ 8
 unfolding wrong
 eight_of_twelve = refl
+
+-- The letters of the three rates are lawful at any number of pairs whose period is.
+pub lawful_eight : (pairs : ℕ) → 9600 ≤ marker_period (layout_of letters_eight pairs) → marker_period (layout_of letters_eight pairs) ≤ 2 ^ 31 → Lawful (layout_of letters_eight pairs)
+unfolding wrong
+lawful_eight pairs long short = record {
+  width = inl refl;
+  long = long;
+  short = short;
+  form = formed letters_eight 8 refl;
+  apart = distant letters_eight 8 refl;
+}
+
+pub lawful_sixteen : (pairs : ℕ) → 9600 ≤ marker_period (layout_of letters_sixteen pairs) → marker_period (layout_of letters_sixteen pairs) ≤ 2 ^ 31 → Lawful (layout_of letters_sixteen pairs)
+unfolding wrong
+lawful_sixteen pairs long short = record {
+  width = inr refl;
+  long = long;
+  short = short;
+  form = formed letters_sixteen 16 refl;
+  apart = distant letters_sixteen 16 refl;
+}

@@ -32,7 +32,7 @@ use Rattle.pairs.specs.Strips.{pair_bit, lane_octets, strip_octets}
 use Rattle.pairs.proofs.Coded.{one_word, word-nth, are_codewords}
 use Rattle.pairs.proofs.Leading.{markers_lead}
 use Rattle.pairs.proofs.Messaged.{symbols_all}
-use Rattle.pairs.proofs.Opened.{block_filled, length-opening}
+use Rattle.pairs.proofs.Opened.{block_filled, length-marker_block, length-opening}
 use Rattle.pairs.proofs.Packs.{length_strip}
 use Rattle.pairs.proofs.Placed.{Arithmetic, arithmetic, bits_of_rows, bit_at, one_to_one}
 use Rattle.pairs.proofs.Streams.{length_stream}
@@ -161,6 +161,13 @@ sound_back (suc n) bs e p s =
     (sound_back n (drop 4 bs) (length-drop 4 bs ∙ omega arith) (payloads-drop 4 bs p) (λ g l. ap sound (group_next bs g) ∙ s (suc g) (omega arith)))
     ∙ take-append-drop 4 bs
 
+-- what opens a pair takes its room, and the scrambled groups stand behind it
+opening-dropped : (r : Layout) (opens : Bool) (pads scrambled : List ℕ) (status : ℕ) → length pads + 120 * r.lanes + 3 ≡ block_size r.lanes →
+    drop (opening_size r.lanes opens) (message r opens pads status scrambled) ≡ scrambled
+unfolding message opening
+opening-dropped r true pads scrambled status e = drop_at (marker_block r pads status) scrambled (block_size r.lanes) (length-marker_block r pads status ∙ e)
+opening-dropped r false pads scrambled status e = refl
+
 -- a pair's message has 10,280 bits
 pub message_fits : (lanes : ℕ) (opens : Bool) → Lanes lanes → opening_size lanes opens + 257 * group_count lanes opens ≡ 10280
 message_fits lanes true (inl e) = rw e
@@ -252,8 +259,8 @@ module _ (r : Layout) (wide : Lanes r.lanes) (p : SentPair) (can : Sendable r.la
 
   module _ (a b : List ℕ) (carried : message_back a b ≡ sent_message r p) where
     scrambled_comes : scrambled_back r.lanes p.opens a b ≡ scrambled
-    unfolding scrambled_back sent_message message
-    scrambled_comes = ap (drop (opening_size r.lanes p.opens)) carried ∙ drop_at (opening r p.opens p.pads p.status) scrambled (opening_size r.lanes p.opens) length-opened
+    unfolding scrambled_back sent_message
+    scrambled_comes = ap (drop (opening_size r.lanes p.opens)) carried ∙ opening-dropped r p.opens p.pads scrambled p.status pads_fill
 
     status_comes : p.opens ≡ true → status_back r.lanes a b ≡ p.status % 8
     unfolding status_back sent_message message opening marker_block
@@ -323,6 +330,7 @@ pair_laws r lawful = record {
     bits = strip_bits_are r.lanes lawful.width;
     words = λ a b. words_return r.lanes a b (arithmetic r.lanes lawful.width);
     message = message_returns;
+    groups = opening-dropped r;
     pair = pair_returns r lawful.width;
     sound = sound_back;
   };

@@ -1,5 +1,5 @@
 -- What holds of every pair on the lanes of a rate. Assumes nothing.
-use Rattle.std.specs.Prelude.{◌≡◌, ℕ, ◌+◌, ◌*◌, ◌%◌, ◌<◌, true, List, length, take, drop, Some}
+use Rattle.std.specs.Prelude.{◌≡◌, ℕ, ◌+◌, ◌*◌, ◌%◌, ◌<◌, Bool, true, List, length, take, drop, Some}
 use Rattle.bits.specs.Bits.{Binary, bit, table, nth}
 use Rattle.blocks.specs.Groups.{read_back}
 use Rattle.blocks.specs.Scrambled.{scrambled_bits, scrambler_after, descrambled_bits}
@@ -8,7 +8,7 @@ use Rattle.blocks.specs.declared.block.Block.{Block}
 use Rattle.code.specs.Code.{WellFormed, Codeword}
 use Rattle.lanes.specs.Markers.{marker_bits}
 use Rattle.lanes.specs.Rates.{Layout, pair_bits}
-use Rattle.pairs.specs.Messages.{SentPair, pad_size, group_count, group_at, message, sent_stream, sent_message, word}
+use Rattle.pairs.specs.Messages.{SentPair, block_size, pad_size, opening_size, group_count, group_at, message, sent_stream, sent_message, word}
 use Rattle.pairs.specs.Places.{one_of, row_count, on_lane, in_word}
 use Rattle.pairs.specs.Returns.{strip_bit, word_back, message_back, status_back, scrambled_back, stream_back, memory_back, pair_blocks_back, each_back}
 use Rattle.pairs.specs.Strips.{pair_bit, strip_octets}
@@ -53,6 +53,8 @@ pub record ComesBack (lanes : ℕ) (p : SentPair) (a b : List ℕ) : Type 0 wher
 pub record WayBack (r : Layout) : Type 0 where
   pub bits : (a b : List ℕ) (l n : ℕ) → l < r.lanes → n < pair_bits r.lanes → strip_bit r.lanes (strip_octets r.lanes a b r.lanes) l n ≡ pair_bit r.lanes a b l n
   pub words : (a b : List ℕ) → WellFormed a → WellFormed b → (w : ℕ) → w < 2 → word_back r.lanes (pair_bit r.lanes a b) w ≡ one_of w a b
+  -- behind what opens a pair stand the scrambled groups, whatever the pad bits and the groups are
+  pub groups : (opens : Bool) (pads scrambled : List ℕ) (status : ℕ) → length pads + 120 * r.lanes + 3 ≡ block_size r.lanes → drop (opening_size r.lanes opens) (message r opens pads status scrambled) ≡ scrambled
   pub message : (bits : List ℕ) → Binary bits → length bits ≡ 10280 → message_back (word bits 0) (word bits 1) ≡ bits
   pub pair : (p : SentPair) → Sendable r.lanes p → ComesBack r.lanes p (word (sent_message r p) 0) (word (sent_message r p) 1)
   -- groups that are sound come back as they were sent
