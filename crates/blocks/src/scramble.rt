@@ -12,7 +12,7 @@ use std::marker::{Model, PhantomData};
 
 // The last 58 bits of a scrambled stream, the newest highest. Nothing here is `Copy` or `Clone`: a copy would restart the
 // stream in silence.
-#[derive(Drop)]
+#[derive(Drop, Debug)]
 pub struct Memory {
     bits: u64,
 }
@@ -30,18 +30,18 @@ impl Model for Memory {
 }
 
 // A stream in direction D: its memory has what went out, or what was received.
-#[derive(Drop)]
+#[derive(Drop, Debug)]
 pub struct Stream<D> {
     memory: Memory,
     direction: PhantomData<D>,
 }
 
 // Bits are scrambled and go out.
-#[derive(Drop)]
+#[derive(Drop, Debug)]
 pub struct Sent;
 
 // Scrambled bits are received and read back.
-#[derive(Drop)]
+#[derive(Drop, Debug)]
 pub struct Received;
 
 pub type Scrambler = Stream<Sent>;

@@ -5,7 +5,7 @@ ghost use Rattle.bits.specs.Bits.{table, nth};
 use blocks::Refusal;
 
 // The last nine pad bits, the newest lowest. No `Copy`: a copy would go on from its own place, and put out bits again.
-#[derive(Drop)]
+#[derive(Drop, Debug)]
 pub struct Pad {
     memory: u16,
     ghost small: { memory < 512 },
