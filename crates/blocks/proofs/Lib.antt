@@ -1,4 +1,5 @@
 pub mod Parts
+pub mod Placing
 pub mod Written
 pub mod Arrays
 pub mod BadKinds

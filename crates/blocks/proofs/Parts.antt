@@ -38,6 +38,15 @@ shortened_bits before x h =
     ∙ ap₂ (λ (u v : List ℕ). u ++ v) (field_shift before 60 0 4)
     (field_join (x / 256) 4 (x % 16) 56 (omega arith) ∙ ap₂ (λ (u v : List ℕ). u ++ v) (field-mod x 4 0 4 (omega arith)) (field_shift x 8 0 56))
 
+-- four of a kind, one by one
+pub four_of : {A : Type 0} (d : A) (xs : List A) → length xs ≡ 4 → xs ≡ get_or xs 0 d ∷ get_or xs 1 d ∷ get_or xs 2 d ∷ get_or xs 3 d ∷ []
+four_of d [] e = absurd (omega arith)
+four_of d (a ∷ []) e = absurd (omega arith)
+four_of d (a ∷ b ∷ []) e = absurd (omega arith)
+four_of d (a ∷ b ∷ c ∷ []) e = absurd (omega arith)
+four_of d (a ∷ b ∷ c ∷ x ∷ []) e = refl
+four_of d (a ∷ b ∷ c ∷ x ∷ y ∷ xs) e = absurd (omega arith)
+
 -- leaving out what stands past a list of n
 pub take_past : {A : Type 0} (xs ys : List A) (n p : ℕ) → length xs ≡ n → take (n + p) (xs ++ ys) ≡ xs ++ take p ys
 take_past [] ys n p e = let z : n ≡ 0 = omega arith in rw (z, zero-add)
@@ -68,14 +77,14 @@ drop_in x i m n ys =
     ∙ drop_at (field x i m) (field x (i + m) n ++ ys) m (length-field x i m)
 
 -- the part that loses its digit, with what stands before and behind it
-leaves_out : (front : List ℕ) (x y : ℕ) (rest : List ℕ) → field y 0 64 ≡ front ++ (field x 0 4 ++ field x 8 56) → field y 0 64 ++ rest ≡ front ++ without 4 (field x 0 64 ++ rest)
+pub leaves_out : (front : List ℕ) (x y : ℕ) (rest : List ℕ) → field y 0 64 ≡ front ++ (field x 0 4 ++ field x 8 56) → field y 0 64 ++ rest ≡ front ++ without 4 (field x 0 64 ++ rest)
 leaves_out front x y rest e =
     ap (λ (l : List ℕ). l ++ rest) e
     ∙ append_assoc front (field x 0 4 ++ field x 8 56) rest
     ∙ ap (λ (l : List ℕ). front ++ l) (append_assoc (field x 0 4) (field x 8 56) rest ∙ sym (ap₂ (λ (u v : List ℕ). u ++ v) (take_in x 4 60 rest) (drop_in x 0 8 56 rest)))
 
 -- a part in front of it
-carries : (front : List ℕ) (x y p : ℕ) (rest out : List ℕ) → field y 0 64 ≡ front ++ field x 0 60 → out ≡ field x 60 4 ++ without p rest
+pub carries : (front : List ℕ) (x y p : ℕ) (rest out : List ℕ) → field y 0 64 ≡ front ++ field x 0 60 → out ≡ field x 60 4 ++ without p rest
     → field y 0 64 ++ out ≡ front ++ without (64 + p) (field x 0 64 ++ rest)
 carries front x y p rest out e f =
     ap₂ (λ (u v : List ℕ). u ++ v) e f
@@ -84,30 +93,6 @@ carries front x y p rest out e f =
     (sym (append_assoc (field x 0 60) (field x 60 4) (without p rest))
     ∙ ap (λ (l : List ℕ). l ++ without p rest) (sym (field-append x 0 60 4))
     ∙ sym (without_past (field x 0 64) rest 64 p (length-field x 0 64)))
-
--- what stands in front of payload k, where `before` stands in front of the first
-abbrev pub ahead : ℕ → List ℕ → ℕ → ℕ
-ahead before ps k = get_or (before ∷ ps) k 0
-
--- part k of payloads ps, where payload `at` loses its digit
-abbrev pub Left : ℕ → ℕ → List ℕ → List ℕ → ℕ → Type 0
-Left before at ps rs k =
-    (k < at → field (get_or rs k 0) 0 64 ≡ field (ahead before ps k) 60 4 ++ field (get_or ps k 0) 0 60)
-    × (k ≡ at → field (get_or rs k 0) 0 64 ≡ field (ahead before ps k) 60 4 ++ (field (get_or ps k 0) 0 4 ++ field (get_or ps k 0) 8 56))
-    × (at < k → get_or rs k 0 ≡ get_or ps k 0)
-
-pub left_out_at : (before at : ℕ) (ps rs : List ℕ) → length rs ≡ length ps → at < length ps → ((k : ℕ) → k < length ps → Left before at ps rs k) →
-    words rs ≡ field before 60 4 ++ without (64 * at + 4) (words ps)
-left_out_at before at [] rs n l f = absurd (omega arith)
-left_out_at before at (p ∷ ps) [] n l f = absurd (omega arith)
-left_out_at before zero (p ∷ ps) (r ∷ rs) n l f =
-    let same : rs ≡ ps = same_number_lists rs ps (omega arith) (λ k m. (f (suc k) (omega arith)).2 (omega arith)) in
-    rw same (leaves_out (field before 60 4) p r (words ps) ((f 0 (omega arith)).1 refl))
-left_out_at before (suc at) (p ∷ ps) (r ∷ rs) n l f =
-    let e : 64 * suc at + 4 ≡ 64 + (64 * at + 4) = omega arith in
-    let rest : (k : ℕ) → k < length ps → Left p at ps rs k = λ k m.
-    let g = f (suc k) (omega arith) in (λ a. g.0 (omega arith), λ a. g.1 (ap suc a), λ a. g.2 (omega arith)) in
-    rw e (carries (field before 60 4) p r (64 * at + 4) (words ps) (words rs) ((f 0 (omega arith)).0 (omega arith)) (left_out_at p at ps rs (omega arith) (omega arith) rest))
 
 -- the low digit of the part's own bits stands behind four others
 pub restored_bits : (x d : ℕ) → d < 16 → field (x / 256 * 256 + d * 16 + x / 16 % 16) 0 64 ≡ field x 4 4 ++ (field d 0 4 ++ field x 8 56)

@@ -7,6 +7,7 @@ ghost use Rattle.blocks.specs.Calls.{outcome_of, four_refused, Grouped, write_re
 use crate::block::Block;
 use crate::group;
 use crate::group::Group;
+use crate::octets::put_group;
 use crate::refusal::Refusal;
 
 // The block of record `index`.
@@ -49,7 +50,7 @@ pub fn write_group(records: &[u8], group: &mut [u8]) -> Result<(), Refusal>
     ensures group { group.new ≡ written records.now group.old }
 {
     let octets = group.as_mut_array::<33>().ok_or(Refusal::Length)?;
-    *octets = <[u8; 33]>::from(group_of(records)?);
+    put_group(octets, group_of(records)?);
     Ok(())
 }
 
