@@ -1,11 +1,14 @@
 -- Records one after another, and whether they are blocks.
-use Rattle.std.proofs.Common.{◌≡◌, ℕ, zero, suc, ◌+◌, ◌<◌, ◌≤◌, true, false, eqb, leb, List, [], ◌∷◌, length, length-drop, get_or, take, drop, ap, ◌∙◌, sym, refl, ◌⊎◌, inl, inr, Option, None, Some, Ok, Err, Result, IsOk, add-one, arith}
+use Rattle.std.proofs.Common.{◌≡◌, ℕ, zero, suc, ◌+◌, ◌<◌, ◌≤◌, true, false, eqb, leb, List, [], ◌∷◌, length, length-drop, get_or, take, drop, ap, ◌∙◌, sym, refl, ◌⊎◌, inl, inr, Option, None, Some, Ok, Err, Result, IsErr, add-one, arith}
 use Rattle.std.proofs.lemmas.List.{drop-drop, get_or-drop}
-use Rattle.std.proofs.lemmas.Bool.{eq-eqb, ne_eqb, eqb-true, cases_Bool, le-ltb, leb-true}
+use Rattle.std.proofs.lemmas.Bool.{eq-eqb, ne_eqb, eqb-true, cases_Bool, le-leb, le-ltb, ltb-false, leb-true}
+use Rattle.std.proofs.lemmas.Option.{none-some}
+use Rattle.std.specs.Option.{option_map}
 use Rattle.blocks.specs.declared.refusal.Refusal.{Refusal}
 use Rattle.blocks.specs.declared.refusal.Refusal.TheVariants.{Length, Kind}
-use Rattle.blocks.specs.Calls.{outcome_of, begun, bad_kind, four_refused, write_refused, written}
+use Rattle.blocks.specs.Calls.{outcome_of, begun, bad_kind, kind_above_3, four_refused, write_refused, written}
 use Rattle.bits.specs.Lowest.{lowest}
+use Rattle.bits.proofs.Lowest.{none_below}
 use Rattle.blocks.specs.Blocks.{blocks_in}
 use Rattle.blocks.specs.Groups.{group_bits, group_octets}
 use Rattle.blocks.specs.Records.{look, rest_at, known, size_of, item_of}
@@ -145,18 +148,73 @@ not_refused_from (suc n) i m xs h = elim (at_front xs) [
   | inr (inr b) ↦ let g = rw (b i) at h in absurd cc
 ]
 
--- four blocks that were accepted become a group
-pub group_written : (xs group : List ℕ) → length xs ≤ 36 → first_refused 4 0 xs ≡ None → length group ≡ 33
-    → (write_refused xs group ≡ None) × (written xs group ≡ group_octets (group_bits (blocks_in 4 xs)))
-unfolding write_refused written
-group_written xs group l h g =
-    let e : eqb (length group) 33 ≡ true = eq-eqb _ _ g in
-    let f = (not_refused xs l h).1 in
-    (rw (e, f) refl, rw (e, f) refl)
+is_block : (xs : List ℕ) → 9 ≤ length xs → get_or xs 0 0 < 4 → IsBlock xs
+unfolding look
+is_block [] l h = absurd (omega arith)
+is_block (k ∷ xs) l h =
+    let low : leb k 3 ≡ true = le-leb k 3 (omega (arith, h)) in
+    let kind : known k ≡ true = rw low refl in
+    let other : eqb k 16 ≡ false = ne_eqb k 16 (λ e. absurd (omega (arith, h, e))) in
+    let room : leb (size_of k) (length xs) ≡ true = rw other (le-leb 8 (length xs) (omega (arith, l))) in
+    elim (read_item k (take (size_of k) xs) kind) [
+      | inr g ↦ absurd (omega (arith, h, g.0))
+      | inl g ↦ (l, h, rw other refl, λ i. rw (kind, room) (g.1 i))
+    ]
 
-pub group_accepted : (xs group : List ℕ) (r : Result (Unit {0}) Refusal) → r ≡ outcome_of (tt {0}) (write_refused xs group) → length xs ≤ 36
-    → first_refused 4 0 xs ≡ None → length group ≡ 33 → IsOk r
-group_accepted xs group r answer l h g = rw (answer, (group_written xs group l h g).0) refl
+block_before : (n i : ℕ) (xs : List ℕ) → 9 ≤ length xs → get_or xs 0 0 < 4 → first_refused n (suc i) (drop 9 xs) ≡ None → first_refused (suc n) i xs ≡ None
+unfolding first_refused
+block_before n i xs l h rest = let b = is_block xs l h in rw (b.3 i) (ap (first_refused n (suc i)) b.2 ∙ rest)
+
+unmapped : (o : Option ℕ) → option_map Kind o ≡ None → o ≡ None
+unmapped None h = refl
+unmapped (Some i) h = absurd cc
+
+-- where four records are not refused, the walk over them is not either
+all_blocks : (i : ℕ) (xs : List ℕ) → four_refused xs ≡ None → first_refused 4 i xs ≡ None
+unfolding four_refused bad_kind first_refused
+all_blocks i xs h = elim (cases_Bool (eqb (length xs) 36)) [
+  | inr e ↦ let g = rw e at h in absurd cc
+  | inl e ↦
+      let whole : length xs ≡ 36 = eqb-true _ _ e in
+      let n : begun xs ≡ 4 = omega arith in
+      let none : lowest (kind_above_3 xs) 4 ≡ None = unmapped _ (rw (e, n) at h) in
+      let p = length-drop 9 xs in
+      let q = length-drop 9 (drop 9 xs) in
+      let r = length-drop 9 (drop 9 (drop 9 xs)) in
+      let t : drop 9 (drop 9 xs) ≡ drop 18 xs = drop-drop 9 9 xs in
+      let u : drop 9 (drop 9 (drop 9 xs)) ≡ drop 27 xs = ap (drop 9) t ∙ drop-drop 9 18 xs in
+      let k0 : get_or xs 0 0 ≤ 3 = ltb-false 3 (get_or xs 0 0) (none_below (kind_above_3 xs) 4 none 0 (omega arith)) in
+      let k1 : get_or xs 9 0 ≤ 3 = ltb-false 3 (get_or xs 9 0) (none_below (kind_above_3 xs) 4 none 1 (omega arith)) in
+      let k2 : get_or xs 18 0 ≤ 3 = ltb-false 3 (get_or xs 18 0) (none_below (kind_above_3 xs) 4 none 2 (omega arith)) in
+      let k3 : get_or xs 27 0 ≤ 3 = ltb-false 3 (get_or xs 27 0) (none_below (kind_above_3 xs) 4 none 3 (omega arith)) in
+      block_before 3 i xs (omega (arith, whole)) (omega (arith, k0))
+      (block_before 2 (suc i) (drop 9 xs) (omega (arith, whole, p)) (omega (arith, k1, get_or-drop 9 xs 0 0))
+      (block_before 1 (suc (suc i)) (drop 9 (drop 9 xs)) (omega (arith, whole, p, q)) (omega (arith, k2, ap (λ ys. get_or ys 0 0) t, get_or-drop 18 xs 0 0))
+      (block_before 0 (suc (suc (suc i))) (drop 9 (drop 9 (drop 9 xs))) (omega (arith, whole, p, q, r)) (omega (arith, k3, ap (λ ys. get_or ys 0 0) u, get_or-drop 27 xs 0 0)) refl)))
+]
+
+-- four records that are not refused are blocks, and become a group
+pub group_written : (i : ℕ) (xs group : List ℕ) → length group ≡ 33 → write_refused xs group ≡ None
+    → (first_refused 4 i xs ≡ None) × (written xs group ≡ group_octets (group_bits (blocks_in 4 xs)))
+unfolding write_refused written
+group_written i xs group g h =
+    let e : eqb (length group) 33 ≡ true = eq-eqb _ _ g in
+    let f : four_refused xs ≡ None = rw e at h in
+    (all_blocks i xs f, rw (e, f) refl)
+
+-- of four records that are refused the walk refuses one
+pub walk_refused : (xs group : List ℕ) (why : Refusal) (r : Result (Unit {0}) Refusal) → length xs ≤ 36 → length group ≡ 33 → write_refused xs group ≡ Some why
+    → r ≡ outcome_of (tt {0}) (first_refused 4 0 xs) → IsErr r
+unfolding write_refused
+walk_refused xs group why r l g h answer = split (first_refused 4 0 xs) refl answer
+  where
+    split : (o : Option Refusal) → first_refused 4 0 xs ≡ o → r ≡ outcome_of (tt {0}) o → IsErr r
+    split (Some e) p a = rw a refl
+    split None p a =
+        let e : eqb (length group) 33 ≡ true = eq-eqb _ _ g in
+        let f : four_refused xs ≡ None = (not_refused xs l p).1 in
+        let n : write_refused xs group ≡ None = rw (e, f) refl in
+        absurd (none-some why (sym n ∙ h))
 
 pub refused_at_end : (n i : ℕ) → first_refused (suc n) i [] ≡ Some Length
 unfolding first_refused look

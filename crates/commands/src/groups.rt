@@ -58,18 +58,16 @@ fn placed(refusal: Refusal, before: usize) -> Refusal
 }
 
 // The line of four blocks, of whose input so many records went before.
-#[tactic(auto, using(crate::proofs::Records::not_refused))]
 fn group_line(records: &[u8], before: usize) -> Result<[u8; LINE], Refusal>
     requires { (length records.now ≤ 36) × (before + 4 < 2 ^ 64) }
     ensures { result ≡ outcome_of (line_of (group_octets (group_bits (blocks_in 4 records.now)))) (first_refused 4 before records.now) }
 {
-    if let Err(refusal) = expect_group(records) {
-        return Err(placed(refusal, before));
-    }
     let mut group = [0; GROUP];
-    // Never refused: four blocks stand there.
-    write_group(records, &mut group).unwrap();
-    Ok(line(&group))
+    match write_group(records, &mut group) {
+        Ok(()) => Ok(line(&group)),
+        // Where no group was written, one of the records is no block: only then the walk, which says which, and why.
+        Err(_) => Err(placed(expect_group(records).unwrap_err(), before)),
+    }
 }
 
 // The last line of a refused input.

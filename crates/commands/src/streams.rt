@@ -38,8 +38,10 @@ pub(crate) fn fill<R: Read>(input: &mut R, buf: &mut [u8]) -> io::Result<usize>
     Err(gave_up())
 }
 
-// Writes the whole text.
-pub(crate) fn put<W: Write>(out: &mut W, text: &[u8]) -> io::Result<()>
+// Writes the whole text, however few bytes a call takes.
+#[cold]
+#[inline(never)]
+fn put_rest<W: Write>(out: &mut W, text: &[u8]) -> io::Result<()>
     ensures { Writes (W.contents out.old) (W.contents out.new) result text.now }
 {
     let mut rest = text;
@@ -58,4 +60,26 @@ pub(crate) fn put<W: Write>(out: &mut W, text: &[u8]) -> io::Result<()>
         }
     }
     Err(gave_up())
+}
+
+// Writes the whole text. A writer with a buffer takes it in one call, and then there is no loop: a line's size is known here.
+#[inline(always)]
+pub(crate) fn put<W: Write>(out: &mut W, text: &[u8]) -> io::Result<()>
+    ensures { Writes (W.contents out.old) (W.contents out.new) result text.now }
+{
+    if text.is_empty() {
+        return Ok(());
+    }
+    match out.write(text) {
+        Ok(n) if n == text.len() => Ok(()),
+        Ok(0) => Err(Error::from(ErrorKind::WriteZero)),
+        Ok(n) => put_rest(out, &text[n..]),
+        Err(e) => {
+            if is_interrupted(&e) {
+                put_rest(out, text)
+            } else {
+                Err(e)
+            }
+        }
+    }
 }
