@@ -9,8 +9,10 @@ fn main(rt: HostRuntime) -> anyhow::Result<()> {
     let mut input = BufReader::new(rt.alloc(), rt.stdin())?;
     let mut out = BufWriter::new(rt.alloc(), rt.stdout())?;
     let printed = print_groups(rt.alloc(), &mut input, &mut out);
-    // What was printed before an error stands.
-    out.flush().context("writing standard output")?;
-    ensure!(printed?.is_none(), "refused");
+    // What was printed before an error stands, and an error of printing is told before one of writing the rest.
+    let flushed = out.flush().context("writing standard output");
+    let refused = printed?;
+    flushed?;
+    ensure!(refused.is_none(), "refused");
     Ok(())
 }
