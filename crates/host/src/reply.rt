@@ -6,13 +6,16 @@ ghost use Rattle.std.specs.Prelude.{◌≡◌, MatchResult};
 pub fn reply<T: Copy>(answer: Result<T, (u32, usize)>, value: &mut T, place: &mut usize) -> u32
     ensures { MatchResult answer (λ x. (result ≡ 0) × (place.new ≡ 0) × (value.new ≡ x)) (λ e. (result ≡ e.0) × (place.new ≡ e.1) × (value.new ≡ value.old)) }
 {
-    let (number, at) = match answer {
+    // The place first: a caller that gives one variable for both is left with the value.
+    match answer {
         Ok(x) => {
+            *place = 0;
             *value = x;
-            (0, 0)
+            0
         }
-        Err(refused) => refused,
-    };
-    *place = at;
-    number
+        Err((number, at)) => {
+            *place = at;
+            number
+        }
+    }
 }
