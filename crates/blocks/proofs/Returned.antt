@@ -1,6 +1,6 @@
 -- What comes back of a group, and that a sound one comes back as it was.
-use Rattle.std.proofs.Common.{◌≡◌, ℕ, zero, suc, ◌+◌, ◌*◌, ◌/◌, ◌%◌, ◌^◌, ◌<◌, Bool, true, false, cond, eqb, List, [], ◌∷◌, ◌++◌, map, length, take, drop, set, Some, None, Option, sym, refl, ap, ◌∙◌, subst, ap₂, inl, inr, append_assoc, div-one, arith, lit<}
-use Rattle.std.specs.List.{find}
+use Rattle.std.proofs.Common.{◌≡◌, ℕ, zero, suc, ◌+◌, ◌*◌, ◌/◌, ◌%◌, ◌^◌, ◌<◌, true, false, eqb, List, [], ◌∷◌, ◌++◌, map, length, get_or, take, drop, set, Some, None, Option, sym, refl, ap, ◌∙◌, subst, ap₂, inl, inr, append_assoc, div-one, arith, lit<}
+use Rattle.std.specs.List.{find, position}
 use Rattle.std.specs.Option.{option_map}
 use Rattle.std.proofs.lemmas.Nat.{field_of}
 use Rattle.std.proofs.lemmas.List.{take_at, drop_at, length-set}
@@ -14,7 +14,7 @@ use Rattle.blocks.specs.declared.block.Header.TheVariants.{Zeros, Control, Data,
 use Rattle.blocks.specs.declared.block.Block.{Block}
 use Rattle.bits.proofs.Fields.{length-field, number-field, number-whole}
 use Rattle.blocks.proofs.Reading.{data_read, zero_control, first_zero}
-use Rattle.blocks.proofs.Written.{first_inside}
+use Rattle.blocks.proofs.Written.{first_inside, none_found, place_found}
 use Rattle.blocks.proofs.Parts.{around, take_past, drop_past, without_past, take_in, drop_in}
 
 -- four bits left out of a part and four put in
@@ -272,23 +272,24 @@ groups_return (a ∷ b ∷ c ∷ d ∷ []) e p =
     let any = four_return a b c d p in
     record { any = any; whole = λ s. any ∙ sound_comes (a ∷ b ∷ c ∷ d ∷ []) s }
 
--- the type of the first control block
-abbrev pub typed : Option Block → Bool
-typed None = true
-typed (Some b) = is_type (b.payload % 256)
-
-typed_first : (bs : List Block) → typed (find (λ (b : Block). is_control b.header) bs) ≡ cond (some_control (headers bs)) (is_type (payload_at (first_control_place (headers bs)) bs % 256)) true
-typed_first [] = refl
-typed_first (b ∷ bs) = elim (cases_Bool (is_control b.header)) [
-  | inl g ↦ rw g
-  | inr g ↦ rw g (typed_first bs)
-]
+-- the payload of the block that stands at a place
+payload_got : (at : ℕ) (bs : List Block) (z : Block) → at < length bs → (get_or bs at z).payload ≡ payload_at at bs
+payload_got at [] z l = absurd (omega arith)
+payload_got zero (b ∷ bs) z l = refl
+payload_got (suc at) (b ∷ bs) z l = payload_got at bs z (omega arith)
 
 module _ (bs : List Block) where
   pub bad_unsound : all_good (headers bs) ≡ false → false ≡ sound bs
   unfolding sound
   bad_unsound g = rw g
 
-  pub typed_sound : all_good (headers bs) ≡ true → (o : Option Block) → o ≡ find (λ (b : Block). is_control b.header) bs → (r : Bool) → r ≡ typed o → r ≡ sound bs
+  pub data_sound : all_good (headers bs) ≡ true → None ≡ position is_control (headers bs) → true ≡ sound bs
   unfolding sound
-  typed_sound g o f r e = rw g (e ∙ ap typed f ∙ typed_first bs)
+  data_sound g e = rw (g, none_found (headers bs) e) refl
+
+  pub control_sound : all_good (headers bs) ≡ true → (at : ℕ) (z : Block) → Some at ≡ position is_control (headers bs) → is_type ((get_or bs at z).payload % 256) ≡ sound bs
+  unfolding sound
+  control_sound g at z e =
+      let f = place_found (headers bs) at e in
+      let n : at < length bs = subst (λ k. at < k) (length-headers bs) f.2 in
+      rw (g, f.0, f.1, payload_got at bs z n) refl

@@ -1,12 +1,12 @@
 -- What the functions that write a group give, and the three cases of writing one.
 use Rattle.std.proofs.Common.{◌≡◌, ℕ, zero, suc, ◌+◌, ◌*◌, ◌%◌, ◌^◌, ◌<◌, true, false, cond, List, [], ◌∷◌, ◌++◌, map, length, get_or, reverse, Some, None, position, sym, refl, ap, ◌∙◌, ap₂, inl, inr, ltb, arith}
-use Rattle.std.specs.List.{fold, list_all, position_or_len}
+use Rattle.std.specs.List.{fold, position_or_len}
 use Rattle.std.proofs.lemmas.Grind.{or_after_shift}
 use lib.Bits.{bit_or}
 use Rattle.std.proofs.lemmas.List.{take_at, drop_at}
 use Rattle.std.proofs.lemmas.Bool.{cases_Bool, lt-ltb, le-ltb}
 use Rattle.bits.specs.Bits.{field, number}
-use Rattle.blocks.specs.Blocks.{good, is_control, second_bit}
+use Rattle.blocks.specs.Blocks.{is_control, second_bit}
 use Rattle.blocks.specs.Groups.{headers, payloads, all_good, some_control, first_control_place, without, group_bits, blocks_under, words}
 use Rattle.blocks.specs.declared.block.Block.{Block}
 use Rattle.blocks.specs.declared.block.Header.{Header}
@@ -35,13 +35,6 @@ headers_map (b ∷ bs) = ap (λ (l : List Header). b.header ∷ l) (headers_map 
 pub payloads_map : (bs : List Block) → words (map (λ (b : Block). b.payload) bs) ≡ payloads bs
 payloads_map [] = refl
 payloads_map (b ∷ bs) = ap (λ (l : List ℕ). field b.payload 0 64 ++ l) (payloads_map bs)
-
-pub all_good_of : (bs : List Block) → list_all (λ (b : Block). good b.header) bs ≡ all_good (headers bs)
-all_good_of [] = refl
-all_good_of (b ∷ bs) = elim (cases_Bool (good b.header)) [
-  | inl g ↦ rw g (all_good_of bs)
-  | inr g ↦ rw g
-]
 
 -- the first control block by its place
 place_of : (hs : List Header) → position_or_len is_control hs ≡ first_control_place hs

@@ -1,7 +1,7 @@
 // Groups of 257 bits: four blocks written, and read back.
 ghost use Rattle.std.specs.Prelude.{◌≡◌, ◌+◌, ◌*◌, ◌/◌, ◌%◌, ◌^◌, ◌<◌, ◌++◌, map, drop, position};
 ghost use Rattle.bits.specs.Bits.{field, number};
-ghost use Rattle.blocks.specs.Blocks.{is_control, second_bit};
+ghost use Rattle.blocks.specs.Blocks.{good, is_control, second_bit};
 ghost use Rattle.blocks.specs.Groups.{headers, payloads, all_good, without, with_digit_at, high_digit, words, bits_of, group_bits, read_back, flagged, blocks_under};
 ghost use Rattle.blocks.specs.Sound.{is_type, sound};
 
@@ -28,13 +28,20 @@ fn payloads_of(blocks: [Block; 4]) -> [u64; 4]
     blocks.map(|b| b.payload)
 }
 
-// Whether each header has one 0 and one 1.
-fn are_good(blocks: &[Block; 4]) -> bool
-    ensures { result ≡ all_good (headers blocks.now) }
+// One 0 and one 1.
+fn is_good(h: Header) -> bool
+    ensures { result ≡ good h }
 {
-    blocks
-        .iter()
-        .all(|b| matches!(b.header, Header::Control | Header::Data))
+    matches!(h, Header::Control | Header::Data)
+}
+
+// Whether each header is good. By value: of the blocks by reference, four headers were tested as a vector, and a bad one, which
+// is hard to foretell, was seen late.
+fn are_good(headers: [Header; 4]) -> bool
+    ensures { result ≡ all_good headers }
+{
+    let [a, b, c, d] = headers;
+    is_good(a) && is_good(b) && is_good(c) && is_good(d)
 }
 
 // The place of the first control block.
@@ -149,11 +156,17 @@ fn has_type(payload: u64) -> bool
 pub fn are_sound(blocks: [Block; 4]) -> bool
     ensures { result ≡ sound blocks }
 {
-    are_good(&blocks)
-        && blocks
-            .iter()
-            .find(|b| b.header == Header::Control)
-            .is_none_or(|b| has_type(b.payload))
+    // By its place: the block that `find` lends has to lie in memory, and this took 1.4 times as long.
+    let headers = headers_of(blocks);
+    let [a, b, c, d] = blocks;
+    are_good(headers)
+        && match first_control(&headers) {
+            None => true,
+            Some(0) => has_type(a.payload),
+            Some(1) => has_type(b.payload),
+            Some(2) => has_type(c.payload),
+            Some(_) => has_type(d.payload),
+        }
 }
 
 // Flag 0 is a control block, flag 1 a data block.
@@ -187,7 +200,7 @@ impl Group {
     {
         let headers = headers_of(blocks);
         let payloads = payloads_of(blocks);
-        if !are_good(&blocks) {
+        if !are_good(headers) {
             return Group {
                 first: false,
                 parts: without_digit(15, 0, payloads),
@@ -205,7 +218,8 @@ impl Group {
         }
     }
 
-    // Four blocks from 257 bits.
+    // Four blocks from 257 bits. Inlined, since a group or blocks with padding are copied in pieces at a call.
+    #[inline(always)]
     pub fn blocks(self) -> [Block; 4]
         ensures { result ≡ read_back (bits_of self) }
     {

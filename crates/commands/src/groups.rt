@@ -1,5 +1,5 @@
 // The command `groups`: block records, four a group, become lines of text.
-ghost use Rattle.std.specs.Prelude.{◌≡◌, OnOk, ◌+◌, ◌≤◌, ◌<◌, ◌^◌, length, string_bytes, ◌++◌, ◌∷◌, [], IfOk, None, ℕ};
+ghost use Rattle.std.specs.Prelude.{◌≡◌, OnOk, ◌+◌, ◌≤◌, ◌<◌, ◌^◌, length, string_bytes, ◌++◌, ◌∷◌, [], IfOk, MatchResult, None, ℕ};
 ghost use Rattle.blocks.specs.Blocks.{blocks_in};
 ghost use Rattle.blocks.specs.Calls.{outcome_of};
 ghost use Rattle.blocks.specs.Groups.{group_bits, group_octets};
@@ -57,14 +57,19 @@ fn placed(refusal: Refusal, before: usize) -> Refusal
     }
 }
 
-// The line of four blocks, of whose input so many records went before.
-fn group_line(records: &[u8], before: usize) -> Result<[u8; LINE], Refusal>
+// Puts down the line of four blocks, of whose input so many records went before. The line is no part of the answer: out of a
+// `Result` it was copied in small pieces, and a group took a third longer.
+fn group_line(records: &[u8], before: usize, text: &mut [u8; LINE]) -> Result<(), Refusal>
     requires { (length records.now ≤ 36) × (before + 4 < 2 ^ 64) }
-    ensures { result ≡ outcome_of (line_of (group_octets (group_bits (blocks_in 4 records.now)))) (first_refused 4 before records.now) }
+    ensures answer { result ≡ outcome_of tt (first_refused 4 before records.now) }
+    ensures text { MatchResult result (λ _. text.new ≡ line_of (group_octets (group_bits (blocks_in 4 records.now)))) (λ _. text.new ≡ text.old) }
 {
     let mut group = [0; GROUP];
     match write_group(records, &mut group) {
-        Ok(()) => Ok(line(&group)),
+        Ok(()) => {
+            *text = line(&group);
+            Ok(())
+        }
         // Where no group was written, one of the records is no block: only then the walk, which says which, and why.
         Err(_) => Err(placed(expect_group(records).unwrap_err(), before)),
     }
@@ -92,13 +97,14 @@ pub fn print_groups<R: Read, W: Write>(
 {
     put(out, b"257\n")?;
     let mut records = [0; RECORDS];
+    let mut text = [0; LINE];
     for group in 0..MOST_GROUPS {
         let n = fill(input, &mut records)?;
         if n == 0 {
             return Ok(None);
         }
-        match group_line(&records[..n], 4 * group) {
-            Ok(line) => put(out, &line)?,
+        match group_line(&records[..n], 4 * group, &mut text) {
+            Ok(()) => put(out, &text)?,
             Err(refusal) => {
                 put(out, refusal_line(alloc, refusal)?.as_bytes())?;
                 return Ok(Some(refusal));

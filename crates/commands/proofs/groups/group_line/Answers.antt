@@ -1,4 +1,4 @@
-use Rattle.std.proofs.Common.{rules, ◌≡◌, ◌+◌, ◌<◌, ap, ◌∙◌, sym, arith, Ok, Err, Some, inl, inr}
+use Rattle.std.proofs.Common.{rules, ◌≡◌, ◌+◌, ◌<◌, ap, ◌∙◌, sym, refl, arith, Err, Some, inl, inr}
 use Rattle.blocks.specs.declared.refusal.Refusal.TheVariants.{Kind}
 use Rattle.commands.specs.Groups.{first_refused}
 use Rattle.commands.specs.Lines.{line_of}
@@ -9,7 +9,10 @@ pub returns-in-Ok : goal.returns-in-Ok
 returns-in-Ok c =
     let h = answered_ok (tt {0}) _ _ (sym c.write_group.ensures.answer ∙ c.in-Ok.is) in
     let w = group_written c.args.before c.args.records.now _ (search rules) h.0 in
-    rw w.0 (ap Ok (c.line.ensures ∙ ap line_of (c.write_group.ensures.group ∙ w.1)))
+    record {
+      answer = rw w.0 refl;
+      text = c.line.ensures ∙ ap line_of (c.write_group.ensures.group ∙ w.1);
+    }
 
 pub unwrap_err-requires : goal.unwrap_err-requires
 unwrap_err-requires c =
@@ -26,8 +29,8 @@ placed-requires c =
       | inr (j, r, l, s) ↦ rw r (omega (arith, room))
     ]
 
-pub returns-in-Err : goal.returns-in-Err
-returns-in-Err c =
+pub returns-in-Err-clause-answer : goal.returns-in-Err-clause-answer
+returns-in-Err-clause-answer c =
     let e = c.unwrap_err.result in
     let h : first_refused 4 0 c.args.records.now ≡ Some e = answered_err (tt {0}) _ _ (sym c.expect_group.ensures ∙ c.unwrap_err.ensures) in
     elim (refused_from 4 0 c.args.before c.args.records.now e h) [

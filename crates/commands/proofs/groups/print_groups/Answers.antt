@@ -32,15 +32,17 @@ pub returns-in_err-put-in-Ok-clause-prints : goal.returns-in_err-put-in-Ok-claus
 returns-in_err-put-in-Ok-clause-prints g c =
     let piece = take c.in_ok-n.n c.fill.new.buf in
     let t = took _ _ c.in_ok-n.n c.fill.new.buf (search rules) c.in_ok-n.ensures.bound.0 c.in_ok-n.ensures.bytes in
-    let h = answered_ok (group_text piece) c.in-Ok.line (first_refused 4 (4 * c.loop-group.group) piece) (sym c.group_line.ensures ∙ c.in-Ok.is) in
-    group_cut _ _ _ _ _ _ c.loop-group.group piece _ c.from_residual-in_err-put-in-Ok.ensures.0 c.loop-group.invariant t h.0 (subst (AppendsFront _ _) h.1 c.in_err-put-in-Ok.ensures)
+    let h = answered_ok (tt {0}) _ (first_refused 4 (4 * c.loop-group.group) piece) (sym c.group_line.ensures.answer ∙ c.in-Ok.is) in
+    let line : c.group_line.new.text ≡ group_text piece = search rules in
+    group_cut _ _ _ _ _ _ c.loop-group.group piece _ c.from_residual-in_err-put-in-Ok.ensures.0 c.loop-group.invariant t h.0 (subst (AppendsFront _ _) line c.in_err-put-in-Ok.ensures)
 
 pub loop-group-preserved : goal.loop-group-preserved
 loop-group-preserved g c =
     let piece = take c.in_ok-n.n c.fill.new.buf in
     let t = took _ _ c.in_ok-n.n c.fill.new.buf (search rules) c.in_ok-n.ensures.bound.0 c.in_ok-n.ensures.bytes in
-    let h = answered_ok (group_text piece) c.in-Ok.line (first_refused 4 (4 * c.loop-group.group) piece) (sym c.group_line.ensures ∙ c.in-Ok.is) in
-    group_printed _ _ _ _ _ _ c.loop-group.group piece c.loop-group.invariant t h.0 (subst (Appends _ _) h.1 c.in_ok-put-in-Ok.ensures)
+    let h = answered_ok (tt {0}) _ (first_refused 4 (4 * c.loop-group.group) piece) (sym c.group_line.ensures.answer ∙ c.in-Ok.is) in
+    let line : c.group_line.new.text ≡ group_text piece = search rules in
+    group_printed _ _ _ _ _ _ c.loop-group.group piece c.loop-group.invariant t h.0 (subst (Appends _ _) line c.in_ok-put-in-Ok.ensures)
 
 pub returns-in_err-refusal_line-in-Err-clause-prints : goal.returns-in_err-refusal_line-in-Err-clause-prints
 returns-in_err-refusal_line-in-Err-clause-prints g c = cut_between _ _ _ _ _ _ c.from_residual-in_err-refusal_line-in-Err.ensures.0 c.loop-group.invariant
@@ -49,7 +51,7 @@ pub returns-in_err-put-in-Err-clause-prints : goal.returns-in_err-put-in-Err-cla
 returns-in_err-put-in-Err-clause-prints g c =
     let piece = take c.in_ok-n.n c.fill.new.buf in
     let t = took _ _ c.in_ok-n.n c.fill.new.buf (search rules) c.in_ok-n.ensures.bound.0 c.in_ok-n.ensures.bytes in
-    let h = answered_err (group_text piece) (first_refused 4 (4 * c.loop-group.group) piece) c.in-Err.refusal (sym c.group_line.ensures ∙ c.in-Err.is) in
+    let h = answered_err (tt {0}) (first_refused 4 (4 * c.loop-group.group) piece) c.in-Err.refusal (sym c.group_line.ensures.answer ∙ c.in-Err.is) in
     let some : 0 < length piece = omega (arith, c.in_ok-n.ensures.bound.1) in
     refusal_cut _ _ _ _ _ _ c.loop-group.group piece c.in-Err.refusal _ c.from_residual-in_err-put-in-Err.ensures.0 c.loop-group.invariant t some h (subst (AppendsFront _ _) (search rules) c.in_err-put-in-Err.ensures)
 
@@ -57,7 +59,7 @@ pub returns-in-Err-clause-prints : goal.returns-in-Err-clause-prints
 returns-in-Err-clause-prints g c =
     let piece = take c.in_ok-n.n c.fill.new.buf in
     let t = took _ _ c.in_ok-n.n c.fill.new.buf (search rules) c.in_ok-n.ensures.bound.0 c.in_ok-n.ensures.bytes in
-    let h = answered_err (group_text piece) (first_refused 4 (4 * c.loop-group.group) piece) c.in-Err.refusal (sym c.group_line.ensures ∙ c.in-Err.is) in
+    let h = answered_err (tt {0}) (first_refused 4 (4 * c.loop-group.group) piece) c.in-Err.refusal (sym c.group_line.ensures.answer ∙ c.in-Err.is) in
     let some : 0 < length piece = omega (arith, c.in_ok-n.ensures.bound.1) in
     (refusal_printed Error _ _ _ _ _ _ c.loop-group.group piece c.in-Err.refusal c.loop-group.invariant t some h (subst (Appends _ _) (search rules) c.in_ok-put-in-Err.ensures)).0
 
@@ -65,7 +67,7 @@ pub returns-in-Err-clause-answer : goal.returns-in-Err-clause-answer
 returns-in-Err-clause-answer g c =
     let piece = take c.in_ok-n.n c.fill.new.buf in
     let t = took _ _ c.in_ok-n.n c.fill.new.buf (search rules) c.in_ok-n.ensures.bound.0 c.in_ok-n.ensures.bytes in
-    let h = answered_err (group_text piece) (first_refused 4 (4 * c.loop-group.group) piece) c.in-Err.refusal (sym c.group_line.ensures ∙ c.in-Err.is) in
+    let h = answered_err (tt {0}) (first_refused 4 (4 * c.loop-group.group) piece) c.in-Err.refusal (sym c.group_line.ensures.answer ∙ c.in-Err.is) in
     let some : 0 < length piece = omega (arith, c.in_ok-n.ensures.bound.1) in
     (refusal_printed Error _ _ _ _ _ _ c.loop-group.group piece c.in-Err.refusal c.loop-group.invariant t some h (subst (Appends _ _) (search rules) c.in_ok-put-in-Err.ensures)).1
 
