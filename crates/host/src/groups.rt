@@ -44,6 +44,10 @@ pub extern "C" fn dartzulia_is_sound(records: &[u8], is_sound: &mut u8, place: &
     ensures place { place.new ≡ group_place (four_refused records.now) }
     ensures sound { is_sound.new ≡ sound_left (four_refused records.now) (sound (blocks_in 4 records.now)) is_sound.old }
 {
-    let answer = blocks::is_sound(records).map(u8::from);
-    reply(answer.map_err(crossed), is_sound, place)
+    let answer = blocks::is_sound(records);
+    // The value before the place: a caller that gives one variable for both is left with the place.
+    if let Ok(sound) = answer {
+        *is_sound = u8::from(sound);
+    }
+    reply(answer.map(|_| ()).map_err(crossed), &mut (), place)
 }
